@@ -3,7 +3,7 @@ use mathlib.Core.Path.{_≡_, refl, sym, ap, _∙_, subst}
 use mathlib.Core.Bool.{Bool, true, false, cond}
 use Prim.Native.Nat.{ℕ, zero, suc, _+_, _-_, _*_, _/_, _%_, _^_, _<_, _≤_}
 use native.Mathlib.Omega.{arith}
-use native.Mathlib.Nat.{mod-eq-of-lt, mod-lt}
+use native.Mathlib.Nat.{mod-eq-of-lt, mod-lt, add-mod-right}
 use lib.Dec.{T, ltb, leb, lit<}
 use lib.IntN.{ℤ, pos, negsuc, _+ℤ_, _-ℤ_, natAbs}
 use lib.Pow.{pow-pos}
@@ -87,11 +87,25 @@ shr-fits w x m f = record { sfits = omega (arith, f .sfits, mag-shr x m) }
 pub shr-code : {w : Width} {r x : ℤ} (m : ℕ) → r ≡ x → SFits w x → toZ w (ofZ w (shrZ (toZ w (ofZ w r)) m)) ≡ shrZ x m
 shr-code {w} {r} {x} m p f = rw (p, toZ-ofZ f, toZ-ofZ (shr-fits w x m f))
 
+-- a difference of two numbers, cut to k bits, in plain sums
+pub cut-sub : (k a b : ℕ) → b ≤ 2 ^ k → cut k (pos a -ℤ pos b) ≡ (a + (2 ^ k - b)) % 2 ^ k
+cut-sub k a zero h =
+    let e : a + (2 ^ k - 0) ≡ a + 0 + 2 ^ k = omega arith in
+    sym (ap (λ (i : ℕ). i % 2 ^ k) e ∙ add-mod-right (a + 0) (2 ^ k))
+cut-sub k a (suc b) h = by (ltb a (suc b)) refl
+  where
+    by : (t : Bool) → ltb a (suc b) ≡ t → cut k (cond t (negsuc (suc b - suc a)) (pos (a - suc b))) ≡ (a + (2 ^ k - suc b)) % 2 ^ k
+    by true q =
+        let l : a < suc b = ltb-true a (suc b) q in
+        let m : suc b - suc a < 2 ^ k = omega arith in
+        let n : a + (2 ^ k - suc b) < 2 ^ k = omega arith in
+        let e : 2 ^ k - suc (suc b - suc a) ≡ a + (2 ^ k - suc b) = omega arith in
+        ap (λ (i : ℕ). 2 ^ k - suc i) (mod-eq-of-lt m) ∙ e ∙ sym (mod-eq-of-lt n)
+    by false q =
+        let l : suc b ≤ a = ltb-false a (suc b) q in
+        let e : a + (2 ^ k - suc b) ≡ a - suc b + 2 ^ k = omega arith in
+        sym (ap (λ (i : ℕ). i % 2 ^ k) e ∙ add-mod-right (a - suc b) (2 ^ k))
+
 -- the difference that wraps: r is the number to which b is added to come to a
 pub difference : (r a b : ℕ) → r < 2 ^ 64 → a < 2 ^ 64 → b < 2 ^ 64 → (r + b) % 2 ^ 64 ≡ a → r ≡ cut 64 (pos a -ℤ pos b)
-difference r a zero hr ha hb e = omega arith
-difference r a (suc b) hr ha hb e = by (ltb a (suc b)) refl
-  where
-    by : (t : Bool) → ltb a (suc b) ≡ t → r ≡ cut 64 (cond t (negsuc (suc b - suc a)) (pos (a - suc b)))
-    by true q = omega (arith, ltb-true a (suc b) q)
-    by false q = omega (arith, ltb-false a (suc b) q)
+difference r a b hr ha hb e = let h : b ≤ 2 ^ 64 = omega arith in rw (cut-sub 64 a b h) (omega arith)

@@ -1,0 +1,4 @@
+pub mod Alu
+pub mod Immediate
+pub mod Upper
+pub mod Alsl
