@@ -3,10 +3,11 @@ use mathlib.Core.Path.{_≡_, refl, sym, ap, _∙_}
 use mathlib.Core.Bool.{Bool, true, false, cond, not}
 use Prim.Native.Nat.{ℕ, _+_, _-_, _*_, _/_, _%_, _^_, _<_, _≤_}
 use native.Mathlib.Omega.{arith}
-use native.Mathlib.Nat.{mod-mod, add-mod, mod-add-mod, add-mul-mod-self-right, add-mul, add-comm, mul-assoc, mul-comm, mul-left-comm}
-use lib.Pow.{split, mod-mod-pow}
+use native.Mathlib.Nat.{mod-mod, add-mod, mod-add-mod, add-mul-mod-self-right}
+use lib.Pow.{mod-mod-pow}
 use lib.IntN.{pos, _-ℤ_}
 use Rattle.word.specs.Word.{low, cut, sext, addD, subD}
+use Rattle.word.proofs.Shifts.{low-scaled}
 use Rattle.word.proofs.Signs.{cut-sub}
 use Rattle.word.proofs.Extends.{sext-same}
 use Rattle.alu.specs.Alu.{addW, subW}
@@ -23,15 +24,6 @@ word-difference a b h =
     ap (low 32) e ∙ add-mul-mod-self-right (low 32 a + (2 ^ 32 - low 32 b)) (a / 2 ^ 32 + (2 ^ 32 - 1 - b / 2 ^ 32)) (2 ^ 32) in
     sext-same 32 (subD a b) (cut 32 (pos (low 32 a) -ℤ pos (low 32 b)))
     (rw (cut-sub 64 a b p, cut-sub 32 (low 32 a) (low 32 b) q) (mod-mod-pow (a + (2 ^ 64 - b)) 32 32 ∙ m ∙ sym (mod-mod (low 32 a + (2 ^ 32 - low 32 b)) (2 ^ 32))))
-
--- a product's low k bits come from the factor's low k bits
-low-scaled : (k a b : ℕ) → low k (low k a * b) ≡ low k (a * b)
-low-scaled k a b =
-    sym (ap (λ (i : ℕ). low k (i * b)) (sym (split a k)) ∙ ap (low k) (add-mul (a / 2 ^ k * 2 ^ k) (low k a) b ∙ turn)
-    ∙ add-mul-mod-self-right (low k a * b) (a / 2 ^ k * b) (2 ^ k))
-  where
-    turn : a / 2 ^ k * 2 ^ k * b + low k a * b ≡ low k a * b + a / 2 ^ k * b * 2 ^ k
-    turn = simp (mul-assoc, mul-comm, mul-left-comm, add-comm)
 
 -- a register shifted and a register added: the low word is the words'
 pub word-scaled : (a b s : ℕ) → low 32 ((a * 2 ^ s % 2 ^ 64 + b) % 2 ^ 64) ≡ low 32 (low 32 a * 2 ^ s + low 32 b)

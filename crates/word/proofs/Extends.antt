@@ -8,10 +8,14 @@ use lib.Dec.{ltb}
 use lib.IntN.{ℤ, pos, negsuc}
 use lib.Pow as Pow
 use lib.Pow.{pow-pos, pow-mono, pow-add, shl-shr, mod-mod-pow}
-use lib.Signed.{shrZ}
+use lib.Signed.{mag, shrZ}
 use borrow.Author.Tests.{lt-ltb, le-ltb, ltb-true, ltb-false}
 use Rattle.word.specs.Word.{low, cut, sext, sextOf, signed, signedOf}
+use mir.Syntax.{w32, w64}
+use mir.Val.{toZ, ofZ, SFits}
+use mir.Facts.{sfits-widen}
 use Rattle.word.proofs.Shifts.{shl-low, pow-parts}
+use Rattle.word.proofs.Signs.{back}
 
 -- the two cases of the top bit
 pub sext-lo : (k : ℕ) {n : ℕ} → n < 2 ^ (k - 1) → sextOf k n ≡ n
@@ -107,3 +111,25 @@ sext-pushed k s h₀ e x =
     let n : low k x < 2 ^ k = mod-lt x (pow-pos k) in
     ap (λ (i : ℕ). cut 64 (shrZ (signedOf 64 i) (2 ^ s))) (mod-mod (x * 2 ^ s) (2 ^ 64) ∙ shl-low x k s 64 e)
     ∙ ap (cut 64) (push-by k h₀ h₁ (low k x) n s e (ltb (low k x) (2 ^ (k - 1))) refl) ∙ sext-cut k h₀ h₁ x
+
+-- a number that k bits hold with its sign is read back from its k bits
+module _ (k : ℕ) (h₀ : 0 < k) where
+  pub signed-cut : (z : ℤ) → mag z < 2 ^ (k - 1) → signed k (cut k z) ≡ z
+  signed-cut (pos n) h =
+      let m : n < 2 ^ k = omega (arith, halves k h₀) in
+      ap (signedOf k) (mod-mod n (2 ^ k) ∙ mod-eq-of-lt m) ∙ signed-lo k h
+  signed-cut (negsuc n) h =
+      let m : n < 2 ^ k = omega (arith, halves k h₀) in
+      let l : 2 ^ k - suc n < 2 ^ k = omega arith in
+      let u : 2 ^ (k - 1) ≤ 2 ^ k - suc n = omega (arith, halves k h₀) in
+      let e : 2 ^ k - suc (2 ^ k - suc n) ≡ n = omega arith in
+      ap (λ (i : ℕ). signed k (2 ^ k - suc i)) (mod-eq-of-lt m) ∙ ap (signedOf k) (mod-eq-of-lt l) ∙ signed-hi k u ∙ ap negsuc e
+
+  -- and then its k bits, sign-extended, are its 64 bits
+  pub sext-fit : k ≤ 64 → (z : ℤ) → mag z < 2 ^ (k - 1) → cut 64 z ≡ sext k (cut k z)
+  sext-fit h₁ z h = sym (ap (cut 64) (signed-cut z h)) ∙ sext-cut k h₀ h₁ (cut k z)
+
+-- a word's value in an i64, and then in a register
+pub word-bits : {r z : ℤ} → r ≡ z → SFits w32 z → cut 64 (toZ w64 (ofZ w64 r)) ≡ sext 32 (cut 32 z)
+word-bits {r} {z} e f =
+    ap (cut 64) (back {w = w64} e (sfits-widen {w = w32} {w′ = w64} tt f)) ∙ sext-fit 32 (omega arith) (omega arith) z (f .sfits)

@@ -11,7 +11,7 @@ use lib.Signed.{leZ, ltZ, nonNeg, mag, shrZ, mag-shr}
 use borrow.Author.Tests.{lt-ltb, le-ltb, ltb-true, ltb-false, leb-false}
 use mir.Syntax.{Width, w8, w16, w32, w64, w128}
 use mir.Val.{toZ, ofZ, sel, bits, hbits, Fits, SFits}
-use mir.Facts.{toZ-ofZ, sfits-toZ, toZ-pos}
+use mir.Facts.{toZ-ofZ, sfits-toZ, sfits-widen, toZ-pos}
 use Rattle.word.specs.Word.{low, cut, signed, signedOf}
 
 sel-cond : (b : Bool) (p q : ℤ) → sel b p q ≡ cond b p q
@@ -58,6 +58,13 @@ ofZ-cut w (negsuc n) f =
 -- a signed value that goes from one call to the next is read back from its bits
 pub back : {w : Width} {r x : ℤ} → r ≡ x → SFits w x → toZ w (ofZ w r) ≡ x
 back p f = rw (p, toZ-ofZ f)
+
+-- a word's signed value, widened
+pub word-fits : (x : ℕ) → SFits w64 (signed 32 x)
+word-fits x = sfits-widen {w = w32} {w′ = w64} tt (signed-fits w32 x)
+
+pub widened : {r : ℤ} (x : ℕ) → r ≡ signed 32 x → toZ w64 (ofZ w64 (toZ w32 (ofZ w32 r))) ≡ signed 32 x
+widened x p = back {w = w64} (back {w = w32} p (signed-fits w32 x)) (word-fits x)
 
 -- the sum by which the code reads a register whose top bit is set
 pub shifted : (x : ℕ) → 2 ^ 63 ≤ x → x < 2 ^ 64 → toZ w64 (x - 2 ^ 63) +ℤ negsuc (2 ^ 63 - 1) ≡ toZ w64 x

@@ -4,9 +4,8 @@ use native.Mathlib.Omega.{arith}
 use borrow.Author.Needs.{needs}
 use mir.Syntax.{w32, w64}
 use mir.Val.{toZ, ofZ}
-use mir.Facts.{sfits-widen}
 use Rattle.word.specs.Word.{signed}
-use Rattle.word.proofs.Signs.{back, signed-fits}
+use Rattle.word.proofs.Signs.{back, signed-fits, word-fits}
 use Rattle.word.proofs.Extends.{sext-signed}
 use Rattle.word.proofs.as_word.Statement.{statement}
 use Rattle.word.proofs.as_word.Tie as tie
@@ -15,7 +14,7 @@ value : (c : tie.After-as-signed) → toZ w64 (ofZ w64 (c .as-signed .result)) �
 value c =
     let x = c .before .before .args .x in
     back {w = w64} (c .as-signed .ensures ∙ ap (signed 64) (c .before .sign-extend .ensures) ∙ sext-signed 32 (omega arith) (omega arith) x)
-    (sfits-widen {w = w32} {w′ = w64} tt (signed-fits w32 x))
+    (word-fits x)
 
 cast-result : tie.Need-cast-result
 cast-result c = rw (value c) (signed-fits w32 (c .before .before .args .x))
