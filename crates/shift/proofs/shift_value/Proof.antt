@@ -31,7 +31,7 @@ shift-value-spec =
     (λ c κs. search needs)
     (λ c. search needs)
     (λ c. search needs)
-    (λ c. 
+    (λ c.
     let x = c .before .before .before .args .x in
     let m = 2 ^ (c .before .before .before .args .by % 32) in
     rw (shr-code {w = w32} m (c .as-word .ensures) (signed-fits w32 x)) (sfits-widen {w = w32} {w′ = w64} tt (shr-fits w32 (signed 32 x) m (signed-fits w32 x))))
@@ -52,7 +52,7 @@ shift-value-spec =
     (λ c κs. search needs)
     (λ c. rw (c .before .enum-told .given .1) (c .sign-extend .ensures ∙ word-shifted (c .before .before .before .args .x) (c .before .before .before .args .by % 32) (omega arith)))
     (λ c. rw (c .before .enum-told2 .given .1) (c .sign-extend2 .ensures))
-    (λ c. 
+    (λ c.
     let x = c .before .before .before .before .args .x in
     let m = 2 ^ (c .before .before .before .before .args .by % 32) in
     rw (c .before .before .enum-told3 .given .1) (c .as-bits .ensures ∙ word-bits (shr-code {w = w32} m (c .before .as-word .ensures) (signed-fits w32 x)) (shr-fits w32 (signed 32 x) m (signed-fits w32 x))))

@@ -1,0 +1,5 @@
+pub mod Count
+pub mod Reverse
+pub mod Unary
+pub mod Bytepick
+pub mod Field
