@@ -72,6 +72,9 @@ divisionOf DivDu = divDu
 divisionOf ModDu = modDu
 
 -- quotient and remainder side by side, each as the register that holds it
+abbrev pub nothing : Divided
+nothing = record { quotient = 0; remainder = 0 }
+
 abbrev pub dividedD : ℤ → ℤ → Divided
 dividedD x y = record { quotient = cut 64 (quotient x y); remainder = cut 64 (remainder x y) }
 

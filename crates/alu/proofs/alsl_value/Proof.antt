@@ -19,12 +19,8 @@ unfolding alslOf
 alsl-value-spec =
     tie.close
     (tie.spec
-    (λ c. search needs)
-    (λ c. search needs)
-    (λ c. search needs)
-    (λ c κs. search needs)
-    (λ c. search needs)
-    (λ c κs. search needs)
+    (λ c. search needs) (λ c. search needs) (λ c. search needs) (λ c κs. search needs)
+    (λ c. search needs) (λ c κs. search needs)
     (λ c. search needs)
     (λ c. search needs)
     (λ c. rw (c .before .enum-told .given .1) (c .sign-extend .ensures ∙ sext-same 32 (c .before .before .before .add-d .result) (shifted (low 32 (c .before .before .before .before .args .rj)) (c .before .before .before .before .args .sa2) + low 32 (c .before .before .before .before .args .rk)) (word (c .before .before .before))))

@@ -11,16 +11,10 @@ unfolding fieldOf
 field-value-spec =
     tie.close
     (tie.spec
-    (λ c. search needs)
-    (λ c κs. search needs)
-    (λ c κs. search needs)
-    (λ c. search needs)
-    (λ c κs. search needs)
-    (λ c. search needs)
-    (λ c κs. search needs)
-    (λ c κs. search needs)
-    (λ c. search needs)
-    (λ c κs. search needs)
+    (λ c. search needs) (λ c κs. search needs) (λ c κs. search needs)
+    (λ c. search needs) (λ c κs. search needs)
+    (λ c. search needs) (λ c κs. search needs) (λ c κs. search needs)
+    (λ c. search needs) (λ c κs. search needs)
     (λ c. rw (c .before .before .enum-told .given .1) (c .sign-extend .ensures ∙ ap (sext 32) (c .before .inserted .ensures)))
     (λ c. rw (c .before .enum-told2 .given .1) (c .inserted2 .ensures))
     (λ c. rw (c .before .before .enum-told3 .given .1) (c .sign-extend2 .ensures ∙ ap (sext 32) (c .before .picked .ensures)))

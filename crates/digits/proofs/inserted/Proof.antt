@@ -13,13 +13,9 @@ inserted-spec =
     tie.close
     (tie.spec
     (λ c. rw (lt-leb _ _ (c .if1 .taken)))
-    (λ c. search needs)
-    (λ c κs. search needs)
+    (λ c. search needs) (λ c κs. search needs)
     (λ c. rw (c .low-bits .ensures) (mod-le (c .before .before .args .x) (2 ^ (c .before .before .args .msb + 1))))
-    (λ c. search needs)
-    (λ c. search needs)
-    (λ c κs. search needs)
-    (λ c. search needs)
+    (λ c. search needs) (λ c. search needs) (λ c κs. search needs) (λ c. search needs)
     (λ c.
     let a = c .before .before .before .args in
     rw (c .before .low-bits .ensures, c .low-bits2 .ensures) (record { fits = omega (arith, insert-fits (a .x) (a .y) (a .msb) (a .lsb) (omega arith) (omega arith) (omega arith)) }))

@@ -7,7 +7,7 @@ use mir.Syntax.{w64}
 use mir.Val.{ofZ}
 use Rattle.word.specs.Word.{cut}
 use Rattle.word.proofs.Signs.{back}
-use Rattle.quotient.specs.Quotient.{dividedD, quotient, remainder}
+use Rattle.quotient.specs.Quotient.{quotient}
 use Rattle.quotient.proofs.Ranges.{is-lit, by-minus-one, divisible, quotient-code, remainder-code}
 use borrow.Author.Needs.{needs}
 use Rattle.quotient.proofs.divide_signed.Statement.{statement}
@@ -23,7 +23,8 @@ pub divide-signed-spec : {M : Type 1} → statement M
 divide-signed-spec =
     tie.close
     (tie.spec
-    (λ c. rw (is-lit {w = w64} (pos 0) (c .before .fits .y) tt (c .if1 .taken)))
+    (λ c κs. search needs)
+    (λ c. rw (is-lit {w = w64} (pos 0) (c .before .before .fits .y) tt (c .before .if1 .taken)) (c .by-zero .ensures))
     (λ c κs. search needs)
     (λ c.
     let y = is-lit {w = w64} (negsuc 0) (c .before .before .before .before .fits .y) tt (c .before .before .if2 .taken) in

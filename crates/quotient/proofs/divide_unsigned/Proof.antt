@@ -12,9 +12,10 @@ pub divide-unsigned-spec : {M : Type 1} → statement M
 divide-unsigned-spec =
     tie.close
     (tie.spec
+    (λ c κs. search needs)
+    (λ c. rw (c .before .if1 .taken) (c .by-zero .ensures))
     (λ c. search needs)
     (λ c. search needs)
-    (λ c. rw (c .if1 .taken))
     (λ c.
     let x = c .before .args .x in
     let y = c .before .args .y in

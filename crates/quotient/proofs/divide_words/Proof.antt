@@ -24,7 +24,8 @@ pub divide-words-spec : {M : Type 1} → statement M
 divide-words-spec =
     tie.close
     (tie.spec
-    (λ c. rw (is-lit {w = w32} (pos 0) (c .before .fits .y) tt (c .if1 .taken)))
+    (λ c κs. search needs)
+    (λ c. rw (is-lit {w = w32} (pos 0) (c .before .before .fits .y) tt (c .before .if1 .taken)) (c .by-zero .ensures))
     (λ c. rw (toZ-ofZ (c .before .before .before .fits .x)) (sfits-widen {w = w32} {w′ = w64} tt (c .before .before .before .fits .x)))
     (λ c κs. search needs)
     (λ c.
