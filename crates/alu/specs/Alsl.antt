@@ -4,7 +4,7 @@ use Rattle.word.specs.Word.{low, sext}
 use Rattle.alu.specs.declared.Alsl.{Alsl}
 use Rattle.alu.specs.declared.Alsl.the-variants.{AlslW, AlslWu, AlslD}
 
--- what is shifted out of a field of two bits: sa2 + 1
+-- x << (sa2+1), where sa2 is a field of two bits
 abbrev pub shifted : ℕ → ℕ → ℕ
 shifted x sa2 = x * 2 ^ (low 2 sa2 + 1)
 

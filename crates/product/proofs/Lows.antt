@@ -5,10 +5,10 @@ use Prim.Native.Nat.{ℕ, zero, suc, _+_, _-_, _*_, _%_, _^_, _<_, _≤_}
 use native.Mathlib.Omega.{arith}
 use native.Mathlib.Nat.{mod-eq-of-lt, mod-lt, mod-mod, mod-eq-sub-mod, mod-add-mod, add-mod-mod, mul-mod-left, mul-mod-right, add-mul, mul-add, add-comm, add-left-comm, add-mul-mod-self-left, add-mul-mod-self-right}
 use lib.Dec.{ltb}
-use lib.IntN.{pos, negsuc, negℤ, _*ℤ_}
+use lib.IntN.{pos, negℤ, _*ℤ_}
 use lib.Pow.{pow-pos, mod-mod-pow}
 use borrow.Author.Tests.{ltb-true, ltb-false}
-use Rattle.word.specs.Word.{low, cut, sext, signed, signedOf}
+use Rattle.word.specs.Word.{low, cut, sext, signedOf}
 use Rattle.word.proofs.Shifts.{low-product}
 use Rattle.word.proofs.Extends.{signed-lo, signed-hi, sext-same}
 use Rattle.product.specs.Product.{signedProduct}

@@ -8,9 +8,10 @@ use lib.Dec.{T, ltb, lit<}
 use lib.IntN.{ℤ, pos, negsuc, negℤ}
 use lib.Signed.{mag, quotZ, remZ, mag-rem}
 use borrow.Author.Tests.{ne-eqb}
-use mir.Syntax.{Width}
-use mir.Val.{toZ, ofZ, hbits, SFits}
+use mir.Syntax.{Width, w8, w16, w32, w64, w128}
+use mir.Val.{toZ, ofZ, bits, hbits, SFits}
 use mir.Facts.{toZ-ofZ}
+use Rattle.word.specs.Word.{cut}
 use Rattle.quotient.specs.Quotient.{quotient, remainder}
 
 -- what a test of a signed number against a literal says
@@ -43,6 +44,14 @@ rest-one (negsuc a) = let e : suc a % 1 ≡ 0 = omega arith in rw e
 
 pub by-minus-one : (x y : ℤ) → y ≡ negsuc 0 → remainder x y ≡ pos 0
 by-minus-one x y e = ap (remainder x) e ∙ rest-one x
+
+-- the least number by -1 is the least number again, once it is cut to the width
+pub least : (w : Width) {x y : ℤ} → x ≡ negsuc (2 ^ hbits w - 1) → y ≡ negsuc 0 → cut (bits w) x ≡ cut (bits w) (quotient x y)
+least w8 p q = rw (p, q)
+least w16 p q = rw (p, q)
+least w32 p q = rw (p, q)
+least w64 p q = rw (p, q)
+least w128 p q = rw (p, q)
 
 div-by : (x y : ℤ) → (y ≡ pos 0 → ⊥) → quotient x y ≡ quotZ x y
 div-by x (pos n) k = rw (ne-eqb n 0 (λ e. k (ap pos e)))

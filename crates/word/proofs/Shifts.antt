@@ -1,6 +1,6 @@
 -- Low digits at every width: what a shift keeps of them (the low j of n = j + k), and that a product's come from its factors'. Assumes nothing.
 use mathlib.Core.Path.{_≡_, sym, ap, _∙_, subst}
-use Prim.Native.Nat.{ℕ, _+_, _-_, _*_, _/_, _%_, _^_, _<_, _≤_}
+use Prim.Native.Nat.{ℕ, _+_, _*_, _/_, _%_, _^_, _<_}
 use native.Mathlib.Nat.{mul-mod-left, add-mul-mod-self-right, add-zero, add-comm, add-mul, mul-assoc, mul-comm, mul-left-comm}
 use lib.Pow.{pow-add, shl-shr, shr-lt, split, mod-pow-add}
 use lib.Arith.{digits-lt}

@@ -1,13 +1,13 @@
 -- The signed reading of a number, at every width w that the machine has: from bits to the signed number and back. Assumes nothing.
 use mathlib.Core.Path.{_≡_, refl, sym, ap, _∙_, subst}
 use mathlib.Core.Bool.{Bool, true, false, cond}
-use Prim.Native.Nat.{ℕ, zero, suc, _+_, _-_, _*_, _/_, _%_, _^_, _<_, _≤_}
+use Prim.Native.Nat.{ℕ, zero, suc, _+_, _-_, _%_, _^_, _<_, _≤_}
 use native.Mathlib.Omega.{arith}
 use native.Mathlib.Nat.{mod-eq-of-lt, mod-lt, add-mod-right}
-use lib.Dec.{T, ltb, leb, lit<}
+use lib.Dec.{T, ltb, leb}
 use lib.IntN.{ℤ, pos, negsuc, _+ℤ_, _-ℤ_, natAbs}
 use lib.Pow.{pow-pos}
-use lib.Signed.{leZ, ltZ, nonNeg, mag, shrZ, mag-shr}
+use lib.Signed.{leZ, nonNeg, shrZ, mag-shr}
 use borrow.Author.Tests.{lt-ltb, le-ltb, ltb-true, ltb-false, leb-false}
 use mir.Syntax.{Width, w8, w16, w32, w64, w128}
 use mir.Val.{toZ, ofZ, sel, bits, hbits, Fits, SFits}

@@ -1,6 +1,6 @@
 -- The words in which every value is said: the bits of a number, and a number read as signed.
 -- A register holds a number below 2 ^ 64. `x[k-1:0]` and the like are the manual's own notation (Appendix A.1).
-use Prim.Native.Nat.{ℕ, suc, _+_, _-_, _*_, _/_, _%_, _^_}
+use Prim.Native.Nat.{ℕ, suc, _+_, _-_, _%_, _^_}
 use mathlib.Core.Bool.{Bool, cond}
 use lib.Dec.{ltb}
 use lib.IntN.{ℤ, pos, negsuc, _-ℤ_}

@@ -1,8 +1,8 @@
 -- `alu::alsl_value` meets its contract: one sum, of which each arm takes its bits. Assumes nothing.
 use mathlib.Core.Path.{_≡_, ap, _∙_}
-use Prim.Native.Nat.{_+_, _*_, _%_, _^_}
+use Prim.Native.Nat.{_+_, _%_, _^_}
 use native.Mathlib.Nat.{mod-add-mod}
-use Rattle.word.specs.Word.{low, sext}
+use Rattle.word.specs.Word.{low}
 use Rattle.word.proofs.Extends.{sext-same}
 use Rattle.alu.specs.Alsl.{alslOf, shifted}
 use Rattle.alu.proofs.Words.{word-scaled}

@@ -1,9 +1,7 @@
 -- `alu::immediate_value` meets its contract, one line an arm: the field is extended, then the register form's law serves. Assumes nothing.
 use mathlib.Core.Path.{ap, _∙_}
 use mathlib.Core.Bool.{Bool, cond}
-use Prim.Native.Nat.{ℕ}
-use lib.Dec.{ltb}
-use Rattle.word.specs.Word.{sext, addD, less}
+use Rattle.word.specs.Word.{sext, addD}
 use Rattle.alu.specs.Alu.{addW, slt, sltu}
 use Rattle.alu.specs.Immediate.{immediateOf}
 use Rattle.alu.proofs.Words.{word-sum}

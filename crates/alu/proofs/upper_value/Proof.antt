@@ -1,6 +1,6 @@
 -- `alu::upper_value` meets its contract, one line an arm. Assumes nothing.
 use mathlib.Core.Path.{ap, _∙_}
-use Prim.Native.Nat.{ℕ, _+_, _*_, _/_, _%_, _^_}
+use Prim.Native.Nat.{ℕ, _+_, _*_, _/_, _^_}
 use Rattle.word.specs.Word.{low, addD}
 use Rattle.alu.specs.Upper.{upperOf}
 use borrow.Author.Needs.{needs}

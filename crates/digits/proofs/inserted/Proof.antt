@@ -1,5 +1,5 @@
 -- `digits::inserted` meets its contract. Assumes nothing.
-use Prim.Native.Nat.{_+_, _-_, _^_}
+use Prim.Native.Nat.{_+_, _^_}
 use native.Mathlib.Omega.{arith}
 use native.Mathlib.Nat.{mod-le}
 use borrow.Author.Tests.{lt-leb}

@@ -1,5 +1,5 @@
 -- `digits::reversed` meets its contract. The invariant: r has the k lowest groups in the other order, and rest is what stands above them. Assumes nothing.
-use mathlib.Core.Path.{_≡_, refl, sym, ap, _∙_}
+use mathlib.Core.Path.{_≡_, refl, ap, _∙_}
 use Prim.Native.Nat.{ℕ, _-_, _*_, _/_, _^_, _≤_}
 use native.Mathlib.Omega.{arith}
 use Rattle.digits.specs.Reverse.{reverse}

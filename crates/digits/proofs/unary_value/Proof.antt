@@ -1,7 +1,6 @@
 -- `digits::unary_value` meets its contract, one line an arm. Assumes nothing.
 use mathlib.Core.Path.{_≡_, sym, ap, _∙_}
 use Prim.Native.Nat.{ℕ, _-_, _^_}
-use native.Mathlib.Omega.{arith}
 use native.Mathlib.Nat.{mod-eq-of-lt, lt-of-le-of-lt}
 use lib.Dec.{lit<}
 use lib.Count.{leadingZeros, trailingZeros, leading-le, trailing-le}

@@ -1,5 +1,5 @@
 -- `product::negated_high` meets its contract: a low half of 0 hands its borrow on. Assumes nothing.
-use mathlib.Core.Path.{_≡_, sym, ap, _∙_}
+use mathlib.Core.Path.{sym, ap, _∙_}
 use Prim.Native.Nat.{ℕ, _+_, _*_, _^_, _<_}
 use lib.IntN.{pos, negℤ}
 use Rattle.product.specs.Product.{high}

@@ -2,19 +2,15 @@
 use mathlib.Core.Path.{_≡_, refl, sym, ap, _∙_}
 use mathlib.Core.Logic.{⊎-elim}
 use Prim.Native.Nat.{_-_, _^_}
-use lib.IntN.{ℤ, pos, negsuc}
+use lib.IntN.{pos, negsuc}
 use mir.Syntax.{w64}
 use mir.Val.{ofZ}
 use Rattle.word.specs.Word.{cut}
 use Rattle.word.proofs.Signs.{back}
-use Rattle.quotient.specs.Quotient.{quotient}
-use Rattle.quotient.proofs.Ranges.{is-lit, by-minus-one, divisible, quotient-code, remainder-code}
+use Rattle.quotient.proofs.Ranges.{is-lit, by-minus-one, least, divisible, quotient-code, remainder-code}
 use borrow.Author.Needs.{needs}
 use Rattle.quotient.proofs.divide_signed.Statement.{statement}
 use Rattle.quotient.proofs.divide_signed.Tie as tie
-
-least : {x y : ℤ} → x ≡ negsuc (2 ^ 63 - 1) → y ≡ negsuc 0 → cut 64 x ≡ cut 64 (quotient x y)
-least p q = rw (p, q)
 
 not-least : (c : tie.Joined2) → c .before .before .args .y ≡ negsuc 0 → c .before .before .args .x ≡ negsuc (2 ^ 63 - 1) → ⊥
 not-least c p q = ⊎-elim (λ h. h .1 .left (ap (ofZ w64) q)) (λ h. h .left (ap (ofZ w64) p)) (c .if2 .came)
@@ -29,7 +25,7 @@ divide-signed-spec =
     (λ c.
     let y = is-lit {w = w64} (negsuc 0) (c .before .before .before .before .fits .y) tt (c .before .before .if2 .taken) in
     λ i. record {
-      quotient = (c .as-bits .ensures ∙ ap (cut 64) (back {w = w64} refl (c .before .before .before .before .fits .x)) ∙ least (is-lit {w = w64} (negsuc (2 ^ 63 - 1)) (c .before .before .before .before .fits .x) tt (c .before .if3 .taken)) y) i;
+      quotient = (c .as-bits .ensures ∙ ap (cut 64) (back {w = w64} refl (c .before .before .before .before .fits .x)) ∙ least w64 (is-lit {w = w64} (negsuc (2 ^ 63 - 1)) (c .before .before .before .before .fits .x) tt (c .before .if3 .taken)) y) i;
       remainder = sym (ap (cut 64) (by-minus-one (c .before .before .before .before .args .x) (c .before .before .before .before .args .y) y)) i;
     })
     (λ c. divisible {w = w64} (c .before .before .fits .x) (c .before .before .fits .y) (c .before .if1 .left) (not-least c))

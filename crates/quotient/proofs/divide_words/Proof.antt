@@ -1,5 +1,5 @@
 -- `quotient::divide_words` meets its contract as `divide_signed` does, at 32 bits; each answer is widened into a register. Assumes nothing.
-use mathlib.Core.Path.{_≡_, refl, sym, ap, _∙_}
+use mathlib.Core.Path.{_≡_, sym, ap, _∙_}
 use mathlib.Core.Logic.{⊎-elim}
 use Prim.Native.Nat.{_-_, _^_}
 use lib.IntN.{ℤ, pos, negsuc}
@@ -8,14 +8,10 @@ use mir.Val.{ofZ}
 use mir.Facts.{sfits-widen, toZ-ofZ}
 use Rattle.word.specs.Word.{cut, sext}
 use Rattle.word.proofs.Extends.{word-bits}
-use Rattle.quotient.specs.Quotient.{quotient, remainder}
-use Rattle.quotient.proofs.Ranges.{is-lit, by-minus-one, divisible, quotient-code, remainder-code, quotient-fits, remainder-fits}
+use Rattle.quotient.proofs.Ranges.{is-lit, by-minus-one, least, divisible, quotient-code, remainder-code, quotient-fits, remainder-fits}
 use borrow.Author.Needs.{needs}
 use Rattle.quotient.proofs.divide_words.Statement.{statement}
 use Rattle.quotient.proofs.divide_words.Tie as tie
-
-least : {x y : ℤ} → x ≡ negsuc (2 ^ 31 - 1) → y ≡ negsuc 0 → sext 32 (cut 32 x) ≡ sext 32 (cut 32 (quotient x y))
-least p q = rw (p, q)
 
 not-least : (c : tie.Joined2) → c .before .before .args .y ≡ negsuc 0 → c .before .before .args .x ≡ negsuc (2 ^ 31 - 1) → ⊥
 not-least c p q = ⊎-elim (λ h. h .1 .left (ap (ofZ w32) q)) (λ h. h .left (ap (ofZ w32) p)) (c .if2 .came)
@@ -31,7 +27,7 @@ divide-words-spec =
     (λ c.
     let y = is-lit {w = w32} (negsuc 0) (c .before .before .before .before .fits .y) tt (c .before .before .if2 .taken) in
     λ i. record {
-      quotient = (c .as-bits .ensures ∙ word-bits (toZ-ofZ (c .before .before .before .before .fits .x)) (c .before .before .before .before .fits .x) ∙ least (is-lit {w = w32} (negsuc (2 ^ 31 - 1)) (c .before .before .before .before .fits .x) tt (c .before .if3 .taken)) y) i;
+      quotient = (c .as-bits .ensures ∙ word-bits (toZ-ofZ (c .before .before .before .before .fits .x)) (c .before .before .before .before .fits .x) ∙ ap (sext 32) (least w32 (is-lit {w = w32} (negsuc (2 ^ 31 - 1)) (c .before .before .before .before .fits .x) tt (c .before .if3 .taken)) y)) i;
       remainder = sym (ap (λ (z : ℤ). sext 32 (cut 32 z)) (by-minus-one (c .before .before .before .before .args .x) (c .before .before .before .before .args .y) y)) i;
     })
     (λ c. divisible {w = w32} (c .before .before .fits .x) (c .before .before .fits .y) (c .before .if1 .left) (not-least c))

@@ -5,8 +5,7 @@ use native.Mathlib.Omega.{arith}
 use native.Mathlib.Nat.{mod-eq-of-lt}
 use mir.Syntax.{w32, w64}
 use mir.Facts.{sfits-widen}
-use lib.Signed.{shrZ}
-use Rattle.word.specs.Word.{low, cut, signed}
+use Rattle.word.specs.Word.{cut, signed}
 use Rattle.word.proofs.Shifts.{shl-low}
 use Rattle.word.proofs.Signs.{signed-fits, shr-fits, shr-code}
 use Rattle.word.proofs.Extends.{word-bits}

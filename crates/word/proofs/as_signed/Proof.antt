@@ -1,5 +1,4 @@
 -- `word::as_signed` meets its contract: the machine reads the bits as the definition does. Assumes nothing.
-use mathlib.Core.Path.{_∙_}
 use borrow.Author.Needs.{needs}
 use mir.Syntax.{w64}
 use mir.Facts.{sfits-toZ, ofZ-toZ}
