@@ -1,3 +1,2 @@
 pub mod Groups
 pub mod Counts
-pub mod Splices

@@ -1,5 +1,3 @@
 pub mod Count
 pub mod Reverse
 pub mod Unary
-pub mod Bytepick
-pub mod Field

@@ -54,8 +54,8 @@ fn value(family: u64, g: Given) -> u64 {
         6 => shift::shift_value(choose::shift_op(g.op), g.rj, g.rk),
         7 => shift::shift_value(choose::shift_op(g.op), g.rj, g.field as u64),
         8 => digits::unary_value(choose::unary_op(g.op), g.rj),
-        9 => digits::bytepick_value(choose::bytepick_op(g.op), g.rj, g.rk, g.field),
-        10 => digits::field_value(choose::field_op(g.op), g.rd, g.rj, g.field, g.second),
+        9 => fields::bytepick_value(choose::bytepick_op(g.op), g.rj, g.rk, g.field),
+        10 => fields::field_value(choose::field_op(g.op), g.rd, g.rj, g.field, g.second),
         11 => if word::less_than(g.rj, g.rk) { 1 } else { 0 },
         _ => 0,
     }

@@ -1,12 +1,12 @@
--- `digits::bytepick_value` meets its contract, by the two widths. Assumes nothing.
+-- `fields::bytepick_value` meets its contract, by the two widths. Assumes nothing.
 use mathlib.Core.Path.{_∙_}
 use Prim.Native.Nat.{_*_, _%_}
 use native.Mathlib.Omega.{arith}
-use Rattle.digits.specs.Bytepick.{bytepickOf}
-use Rattle.digits.proofs.Splices.{splice-fits, splice-word, double-fits, splice-double, splice-none}
+use Rattle.fields.specs.Bytepick.{bytepickOf}
+use Rattle.fields.proofs.Splices.{splice-fits, splice-word, double-fits, splice-double, splice-none}
 use borrow.Author.Needs.{needs}
-use Rattle.digits.proofs.bytepick_value.Statement.{statement}
-use Rattle.digits.proofs.bytepick_value.Tie as tie
+use Rattle.fields.proofs.bytepick_value.Statement.{statement}
+use Rattle.fields.proofs.bytepick_value.Tie as tie
 
 pub bytepick-value-spec : {M : Type 1} → statement M
 unfolding bytepickOf

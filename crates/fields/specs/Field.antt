@@ -4,8 +4,8 @@ use Prim.Native.Nat.{ℕ, _+_, _-_, _*_, _/_, _^_}
 use mathlib.Core.Bool.{cond}
 use lib.Dec.{leb}
 use Rattle.word.specs.Word.{low, sext}
-use Rattle.digits.specs.declared.Field.{Field}
-use Rattle.digits.specs.declared.Field.the-variants.{BstrinsW, BstrinsD, BstrpickW, BstrpickD}
+use Rattle.fields.specs.declared.Field.{Field}
+use Rattle.fields.specs.declared.Field.the-variants.{BstrinsW, BstrinsD, BstrpickW, BstrpickD}
 
 -- x[msb:lsb]
 abbrev pub pick : ℕ → ℕ → ℕ → ℕ

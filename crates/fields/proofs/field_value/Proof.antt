@@ -1,10 +1,10 @@
--- `digits::field_value` meets its contract, one line an arm. Assumes nothing.
+-- `fields::field_value` meets its contract, one line an arm. Assumes nothing.
 use mathlib.Core.Path.{ap, _∙_}
 use Rattle.word.specs.Word.{sext}
-use Rattle.digits.specs.Field.{fieldOf}
+use Rattle.fields.specs.Field.{fieldOf}
 use borrow.Author.Needs.{needs}
-use Rattle.digits.proofs.field_value.Statement.{statement}
-use Rattle.digits.proofs.field_value.Tie as tie
+use Rattle.fields.proofs.field_value.Statement.{statement}
+use Rattle.fields.proofs.field_value.Tie as tie
 
 pub field-value-spec : {M : Type 1} → statement M
 unfolding fieldOf

@@ -8,7 +8,7 @@ use borrow.Author.Tests.{le-leb}
 use Rattle.word.specs.Word.{low, sext}
 use Rattle.word.proofs.Shifts.{shl-low, joined-lt, top-lt}
 use Rattle.word.proofs.Extends.{sext-same}
-use Rattle.digits.specs.Field.{insert}
+use Rattle.fields.specs.Field.{insert}
 
 -- x's upper s digits below y's lower digits, in n digits
 abbrev pub spliced : ℕ → ℕ → ℕ → ℕ → ℕ

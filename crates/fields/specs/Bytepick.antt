@@ -1,8 +1,8 @@
 -- Bytes of two registers: manual 2.2.3.3.
 use Prim.Native.Nat.{ℕ, _+_, _-_, _*_, _/_, _^_}
 use Rattle.word.specs.Word.{low, sext}
-use Rattle.digits.specs.declared.Bytepick.{Bytepick}
-use Rattle.digits.specs.declared.Bytepick.the-variants.{BytepickW, BytepickD}
+use Rattle.fields.specs.declared.Bytepick.{Bytepick}
+use Rattle.fields.specs.declared.Bytepick.the-variants.{BytepickW, BytepickD}
 
 -- {GR[rk][n-8*sa-1:0], GR[rj][n-1:n-8*sa]}, of registers of n bits. 01: "BYTEPICK puts rk's lower bytes above rj's upper bytes: with
 -- field n, the top n bytes of rj become the lowest n of the result."

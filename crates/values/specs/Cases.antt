@@ -17,8 +17,8 @@ use Rattle.digits.specs.Count.{leading, trailing}
 use Rattle.digits.specs.Reverse.{reverse, reverseEach}
 use Rattle.digits.specs.Unary.{unaryOf}
 use Rattle.digits.specs.declared.Unary.the-variants.{CloW, CtzD, RevbD, Revb2h, BitrevD}
-use Rattle.digits.specs.Bytepick.{bytepickD}
-use Rattle.digits.specs.Field.{bstrinsD, bstrpickW}
+use Rattle.fields.specs.Bytepick.{bytepickD}
+use Rattle.fields.specs.Field.{bstrinsD, bstrpickW}
 
 pub data Case : Type 0 where
   gives : ℕ → ℕ → Case

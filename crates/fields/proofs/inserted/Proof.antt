@@ -1,12 +1,12 @@
--- `digits::inserted` meets its contract. Assumes nothing.
+-- `fields::inserted` meets its contract. Assumes nothing.
 use Prim.Native.Nat.{_+_, _^_}
 use native.Mathlib.Omega.{arith}
 use native.Mathlib.Nat.{mod-le}
 use borrow.Author.Tests.{lt-leb}
-use Rattle.digits.proofs.Splices.{insert-fits, insert-is}
+use Rattle.fields.proofs.Splices.{insert-fits, insert-is}
 use borrow.Author.Needs.{needs}
-use Rattle.digits.proofs.inserted.Statement.{statement}
-use Rattle.digits.proofs.inserted.Tie as tie
+use Rattle.fields.proofs.inserted.Statement.{statement}
+use Rattle.fields.proofs.inserted.Tie as tie
 
 pub inserted-spec : {M : Type 1} → statement M
 inserted-spec =

@@ -1,10 +1,10 @@
--- `digits::picked` meets its contract: a field with msb below lsb has no bits. Assumes nothing.
+-- `fields::picked` meets its contract: a field with msb below lsb has no bits. Assumes nothing.
 use Prim.Native.Nat.{_+_, _-_}
 use mathlib.Core.Path.{_≡_}
 use native.Mathlib.Omega.{arith}
 use borrow.Author.Needs.{needs}
-use Rattle.digits.proofs.picked.Statement.{statement}
-use Rattle.digits.proofs.picked.Tie as tie
+use Rattle.fields.proofs.picked.Statement.{statement}
+use Rattle.fields.proofs.picked.Tie as tie
 
 pub picked-spec : {M : Type 1} → statement M
 picked-spec =

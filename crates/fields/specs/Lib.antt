@@ -1,0 +1,2 @@
+pub mod Bytepick
+pub mod Field
