@@ -1,0 +1,4 @@
+pub mod Format
+pub mod Table
+pub mod Decode
+pub mod Encode
