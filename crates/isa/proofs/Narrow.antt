@@ -50,11 +50,11 @@ abbrev pub every : (Row → Bool) → List Entry → Bool
 every p [] = true
 every p (e ∷ es) = p (e .row) && every p es
 
-both-l : (a b : Bool) → a && b ≡ true → a ≡ true
+pub both-l : (a b : Bool) → a && b ≡ true → a ≡ true
 both-l true b e = refl
 both-l false b e = e
 
-tested : {x y : ℕ} → x ≡ y → T (eqb x y)
+pub tested : {x y : ℕ} → x ≡ y → T (eqb x y)
 tested {x} e = subst (λ (y : ℕ). T (eqb x y)) e (eqb-refl x)
 
 -- the first bits of the first bits
@@ -124,12 +124,14 @@ begins (s ∷ ss) c w g t h =
     sym (g .0 ∙ shr-mod (s .size) (s .at) (subst (λ (n : ℕ). w < 2 ^ n) (sym e) h))
 
 module _ (w : ℕ) (h : w < 2 ^ 32) where
-  -- the words of a row begin bs its opcode does
+  -- the words of a row agree with its opcode
+  pub agrees : (r : Row) → T (joins (codePlaces r)) → has r w ≡ true → Agree (codePlaces r) (r .code) w
+  agrees r t e =
+      subst (λ (x : ℕ). Agree (codePlaces r) x w) (eqb-true _ _ (both-l (eqb (values (r .format) w opcode) (r .code)) _ e)) (agree (codePlaces r) w t)
+
+  -- and begin as it does
   starts : (r : Row) → T (proper r) → has r w ≡ true → w / 2 ^ (start r) ≡ front r
-  starts r t e =
-      let c : values (r .format) w opcode ≡ r .code = eqb-true _ _ (both-l (eqb (values (r .format) w opcode) (r .code)) _ e) in
-      begins (codePlaces r) (r .code) w (subst (λ (x : ℕ). Agree (codePlaces r) x w) c (agree (codePlaces r) w (and-l (joins (codePlaces r)) _ t)))
-      (and-r (joins (codePlaces r)) _ t) h
+  starts r t e = begins (codePlaces r) (r .code) w (agrees r (and-l (joins (codePlaces r)) _ t) e) (and-r (joins (codePlaces r)) _ t) h
 
   -- so does a longer or a shorter beginning
   pub begun : (r : Row) (m : ℕ) → T (proper r) → has r w ≡ true → T (fits m (w / 2 ^ m) r)
@@ -139,7 +141,7 @@ module _ (w : ℕ) (h : w < 2 ^ 32) where
       by true q = tested (ap (λ (x : ℕ). x / 2 ^ (m - start r)) (sym (starts r t e)) ∙ shorter w (start r) m (leb-true (start r) m q))
       by false q = tested (shorter w m (start r) (le-of-lt (leb-false (start r) m q)) ∙ starts r t e)
 
-  -- a word is decoded by the rows that begin bs it does
+  -- a word is decoded by the rows that begin as it does
   narrow-in : (m k : ℕ) → w / 2 ^ m ≡ k → (es : List Entry) → T (every proper es) → decodeIn es w ≡ decodeIn (under m k es) w
   narrow-in m k q [] t = refl
   narrow-in m k q (e ∷ es) t = by (fits m k (e .row)) refl (narrow-in m k q es (and-r (proper (e .row)) _ t))

@@ -41,31 +41,32 @@ ofHintOperands o hint = o .hint
 ofHintOperands o lsb = 0
 ofHintOperands o msb = 0
 
-abbrev pub partsOf : Instruction → Part → ℕ
-partsOf (instruction.Alu op o) = ofOperands o
-partsOf (instruction.Product op o) = ofOperands o
-partsOf (instruction.Division op o) = ofOperands o
-partsOf (instruction.Shift op o) = ofOperands o
-partsOf (instruction.ShiftImmediate op o) = ofOperands o
-partsOf (instruction.Immediate op o) = ofOperands o
-partsOf (instruction.Upper op o) = ofOperands o
-partsOf (instruction.Alsl op o) = ofOperands o
-partsOf (instruction.Bytepick op o) = ofOperands o
-partsOf (instruction.Unary op o) = ofOperands o
-partsOf (instruction.Field op o) = ofFieldOperands o
-partsOf (instruction.Branch op o) = ofOperands o
-partsOf (instruction.ZeroBranch op o) = ofOperands o
-partsOf (instruction.Jump op o) = ofOperands o
-partsOf (instruction.Load op o) = ofOperands o
-partsOf (instruction.LoadIndexed op o) = ofOperands o
-partsOf (instruction.Store op o) = ofOperands o
-partsOf (instruction.StoreIndexed op o) = ofOperands o
-partsOf (instruction.Pointer op o) = ofOperands o
-partsOf (instruction.Preload op o) = ofHintOperands o
-partsOf (instruction.Barrier op o) = ofOperands o
-partsOf (instruction.Trap op o) = ofOperands o
-partsOf (instruction.Assert op o) = ofOperands o
-partsOf (instruction.Config op o) = ofOperands o
+-- the value of each operand of an instruction
+abbrev pub operandsOf : Instruction → Part → ℕ
+operandsOf (instruction.Alu op o) = ofOperands o
+operandsOf (instruction.Product op o) = ofOperands o
+operandsOf (instruction.Division op o) = ofOperands o
+operandsOf (instruction.Shift op o) = ofOperands o
+operandsOf (instruction.ShiftImmediate op o) = ofOperands o
+operandsOf (instruction.Immediate op o) = ofOperands o
+operandsOf (instruction.Upper op o) = ofOperands o
+operandsOf (instruction.Alsl op o) = ofOperands o
+operandsOf (instruction.Bytepick op o) = ofOperands o
+operandsOf (instruction.Unary op o) = ofOperands o
+operandsOf (instruction.Field op o) = ofFieldOperands o
+operandsOf (instruction.Branch op o) = ofOperands o
+operandsOf (instruction.ZeroBranch op o) = ofOperands o
+operandsOf (instruction.Jump op o) = ofOperands o
+operandsOf (instruction.Load op o) = ofOperands o
+operandsOf (instruction.LoadIndexed op o) = ofOperands o
+operandsOf (instruction.Store op o) = ofOperands o
+operandsOf (instruction.StoreIndexed op o) = ofOperands o
+operandsOf (instruction.Pointer op o) = ofOperands o
+operandsOf (instruction.Preload op o) = ofHintOperands o
+operandsOf (instruction.Barrier op o) = ofOperands o
+operandsOf (instruction.Trap op o) = ofOperands o
+operandsOf (instruction.Assert op o) = ofOperands o
+operandsOf (instruction.Config op o) = ofOperands o
 
 -- the row that an instruction is of
 abbrev pub rowOf : Instruction → Row
@@ -94,13 +95,17 @@ rowOf (instruction.Trap op o) = trapRow op
 rowOf (instruction.Assert op o) = assertRow op
 rowOf (instruction.Config op o) = configRow op
 
+-- all parts of a word: an opcode, and operands
 abbrev pub withCode : ℕ → (Part → ℕ) → Part → ℕ
 withCode c x q = cond (same q opcode) c (x q)
 
--- the word with the row's opcode and the instruction's operands
+abbrev pub partsOf : Instruction → Part → ℕ
+partsOf i = withCode (rowOf i .code) (operandsOf i)
+
+-- the word of an instruction
 abbrev pub encodeOf : Instruction → ℕ
-encodeOf i = wordOf (rowOf i .format .pieces) (withCode (rowOf i .code) (partsOf i))
+encodeOf i = wordOf (rowOf i .format .pieces) (partsOf i)
 
 -- operands in range: each fits its field, one that the format does not have is below 2 ^ 0 and so 0, and the format allows them
 abbrev pub InRange : Instruction → Type 0
-InRange i = ((q : Part) → partsOf i q < 2 ^ width (rowOf i .format) q) × (rowOf i .format .allows (partsOf i) ≡ true)
+InRange i = ((q : Part) → operandsOf i q < 2 ^ width (rowOf i .format) q) × (rowOf i .format .allows (partsOf i) ≡ true)

@@ -1,0 +1,4 @@
+pub mod Words
+pub mod Apart
+pub mod Enumerated
+pub mod RoundTrip
