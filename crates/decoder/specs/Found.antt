@@ -2,7 +2,7 @@
 -- `Decodes` alone.
 use Prim.Native.Nat.{ℕ}
 use Rattle.isa.specs.Format.{values, r2, r3, r2i12, hintI12, hintR2}
-use Rattle.isa.specs.Decode.{operands, hintOperands}
+use Rattle.isa.specs.Operands.{operands, hintOperands}
 use Rattle.isa.specs.declared.Instruction.the-variants as instruction
 use Rattle.isa.specs.declared.Decoded.{Decoded}
 use Rattle.isa.specs.declared.Decoded.the-variants.{Known, Unknown}

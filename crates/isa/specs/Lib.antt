@@ -1,4 +1,2 @@
 pub mod Format
-pub mod Table
-pub mod Decode
-pub mod Encode
+pub mod Operands

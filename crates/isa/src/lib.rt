@@ -1,7 +1,7 @@
 // Instructions, and the operands that a word has in each format.
 ghost use mathlib.Core.Path.{_≡_};
 ghost use Rattle.isa.specs.Format.{rd, rj, rk, imm, lsb, msb, hint, values, r2, r3, r3i2, r3i3, r2i5, r2i6, r2i12, r2i14, r2i16, r1i20, r1i21, i26, i15, asrt, fieldW, fieldD, hintI12, hintR2};
-ghost use Rattle.isa.specs.Decode.{operands, fieldOperands, hintOperands};
+ghost use Rattle.isa.specs.Operands.{operands, fieldOperands, hintOperands};
 use alu::Alsl;
 use alu::Alu;
 use alu::Immediate;

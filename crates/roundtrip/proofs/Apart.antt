@@ -7,11 +7,11 @@ use mathlib.Core.List.{List, [], _∷_}
 use lib.Dec.{T, eqb, leb, eqb→eq, leb→le, T-not}
 use lib.Pow.{shr-shr, field}
 use Rattle.isa.specs.Format.{Place, values}
-use Rattle.isa.specs.Table.{Row}
-use Rattle.isa.specs.Decode.{Entry, has, decodeIn, table}
+use Rattle.decoder.specs.Table.{Row}
+use Rattle.decoder.specs.Decode.{Entry, has, decodeIn, table}
 use Rattle.isa.specs.declared.Decoded.the-variants.{Known}
 use Rattle.isa.proofs.Places.{Agree, inValue, inWord, joins, and-l, and-r}
-use Rattle.isa.proofs.Narrow.{codePlaces, every, agrees, tested}
+use Rattle.decoder.proofs.Narrow.{codePlaces, every, agrees, tested}
 
 -- at two places that end at the same bit, the first from no higher bit on, two opcodes have other bits
 abbrev differ : Place → ℕ → Place → ℕ → Bool

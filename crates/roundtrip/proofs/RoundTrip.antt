@@ -10,15 +10,16 @@ use lib.Dec.{T, eqb, ltb, eqb→eq, ltb→lt}
 use lib.Pow.{pow-pos}
 use borrow.Author.Tests.{eqb-true, eq-eqb}
 use Rattle.isa.specs.Format.{Part, opcode, rd, rj, rk, imm, hint, lsb, msb, same, Format, places, filled, wordOf, values, width}
-use Rattle.isa.specs.Table.{Row}
-use Rattle.isa.specs.Decode.{Family, Entry, entry, entries, allEntries, families, has, decodeIn, table, decodeOf, Decodes, operands, fieldOperands, hintOperands, alu, product, division, shift, shiftImmediate, immediate, upper, alsl, bytepick, unary, field, branch, zeroBranch, jump, load, loadIndexed, store, storeIndexed, pointer, preload, barrier, trap, assert, config}
-use Rattle.isa.specs.Encode.{ofOperands, ofFieldOperands, ofHintOperands, operandsOf, rowOf, withCode, partsOf, encodeOf, InRange}
+use Rattle.decoder.specs.Table.{Row}
+use Rattle.isa.specs.Operands.{operands, fieldOperands, hintOperands}
+use Rattle.decoder.specs.Decode.{Family, Entry, entry, entries, allEntries, families, has, decodeIn, table, decodeOf, Decodes, alu, product, division, shift, shiftImmediate, immediate, upper, alsl, bytepick, unary, field, branch, zeroBranch, jump, load, loadIndexed, store, storeIndexed, pointer, preload, barrier, trap, assert, config}
+use Rattle.roundtrip.specs.Encode.{ofOperands, ofFieldOperands, ofHintOperands, operandsOf, rowOf, withCode, partsOf, encodeOf, InRange}
 use Rattle.isa.specs.declared.Instruction.{Instruction}
 use Rattle.isa.specs.declared.Instruction.the-variants as instruction
 use Rattle.isa.specs.declared.Decoded.{Decoded}
 use Rattle.isa.specs.declared.Decoded.the-variants.{Known, Unknown}
 use Rattle.isa.proofs.Places.{Agree, joins, agree, read-back, gather-lt, and-l, and-r}
-use Rattle.isa.proofs.Narrow.{every, both-l}
+use Rattle.decoder.proofs.Narrow.{every, both-l}
 use Rattle.roundtrip.proofs.Words.{word-lt, agreed, laid}
 use Rattle.roundtrip.proofs.Apart.{Has, here, there, every-of, joined, apart, rows-apart, found}
 use Rattle.roundtrip.proofs.Enumerated as enum
@@ -187,7 +188,7 @@ hinted-parts r t u w e lsb = absent r t w lsb (and-l (eqb (width (r .format) lsb
 hinted-parts r t u w e msb = absent r t w msb (and-l (eqb (width (r .format) msb) 0) _ (and-r (eqb (width (r .format) lsb) 0) _ (and-r (eqb (width (r .format) rd) 0) _ u)))
 
 plain-keeps : (F : Family) → ((op : F .Op) → In op (F .ops)) → T (lack F (hint ∷ lsb ∷ msb ∷ []) (F .ops)) → ((op : F .Op) (x : Part → ℕ) → rowOf (F .make op x) ≡ F .row op)
-  → ((op : F .Op) (x : Part → ℕ) (q : Part) → partsOf (F .make op x) q ≡ withCode (F .row op .code) (ofOperands (operands x)) q) → Kept F
+    → ((op : F .Op) (x : Part → ℕ) (q : Part) → partsOf (F .make op x) q ≡ withCode (F .row op .code) (ofOperands (operands x)) q) → Kept F
 plain-keeps F m t r p =
     record {
       member = m;
@@ -196,7 +197,7 @@ plain-keeps F m t r p =
     }
 
 field-keeps : (F : Family) → ((op : F .Op) → In op (F .ops)) → T (lack F (rk ∷ imm ∷ hint ∷ []) (F .ops)) → ((op : F .Op) (x : Part → ℕ) → rowOf (F .make op x) ≡ F .row op)
-  → ((op : F .Op) (x : Part → ℕ) (q : Part) → partsOf (F .make op x) q ≡ withCode (F .row op .code) (ofFieldOperands (fieldOperands x)) q) → Kept F
+    → ((op : F .Op) (x : Part → ℕ) (q : Part) → partsOf (F .make op x) q ≡ withCode (F .row op .code) (ofFieldOperands (fieldOperands x)) q) → Kept F
 field-keeps F m t r p =
     record {
       member = m;
@@ -205,7 +206,7 @@ field-keeps F m t r p =
     }
 
 hinted-keeps : (F : Family) → ((op : F .Op) → In op (F .ops)) → T (lack F (rd ∷ lsb ∷ msb ∷ []) (F .ops)) → ((op : F .Op) (x : Part → ℕ) → rowOf (F .make op x) ≡ F .row op)
-  → ((op : F .Op) (x : Part → ℕ) (q : Part) → partsOf (F .make op x) q ≡ withCode (F .row op .code) (ofHintOperands (hintOperands x)) q) → Kept F
+    → ((op : F .Op) (x : Part → ℕ) (q : Part) → partsOf (F .make op x) q ≡ withCode (F .row op .code) (ofHintOperands (hintOperands x)) q) → Kept F
 hinted-keeps F m t r p =
     record {
       member = m;
@@ -318,7 +319,7 @@ module _ (w : ℕ) (i : Instruction) where
       by (has (F .row op) w) refl e (in-entries F k ops es (and-r (sound (F .row op)) _ t) next)
     where
       by : (b : Bool) → has (F .row op) w ≡ b → cond b (Known (F .make op (values (F .row op .format) w))) (decodeIn (entries F ops ++ es) w) ≡ Known i
-        → (decodeIn (entries F ops ++ es) w ≡ Known i → Came w i) → Came w i
+          → (decodeIn (entries F ops ++ es) w ≡ Known i → Came w i) → Came w i
       by true h d later = let z : F .make op (values (F .row op .format) w) ≡ i = cc in made F k op (and-l (sound (F .row op)) _ t) h z
       by false h d later = later d
 
@@ -426,7 +427,7 @@ has-nth (suc n) (F ∷ Fs) t op h = has-right (entries F (F .ops)) (allEntries F
 
 -- for an entry of the table
 decoded-by : (e : Entry) → Has e table → (x : Part → ℕ) → ((q : Part) → x q < 2 ^ width (e .row .format) q) → e .row .format .allows (withCode (e .row .code) x) ≡ true
-  → decodeOf (wordOf (e .row .format .pieces) (withCode (e .row .code) x)) ≡ Known (e .make (withCode (e .row .code) x))
+    → decodeOf (wordOf (e .row .format .pieces) (withCode (e .row .code) x)) ≡ Known (e .make (withCode (e .row .code) x))
 unfolding decodeOf
 decoded-by e h x v a =
     let t = every-of sound h rows-sound in
@@ -435,8 +436,8 @@ decoded-by e h x v a =
     ∙ ap (λ (z : Part → ℕ). Known (e .make z)) (read (e .row) t y (coded-lt (e .row) t x v))
 
 decoded-at : (n : ℕ) → T (within n families) → Kept (nth n families) → (op : nth n families .Op) (x : Part → ℕ) → ((q : Part) → x q < 2 ^ width (nth n families .row op .format) q)
-  → nth n families .row op .format .allows (withCode (nth n families .row op .code) x) ≡ true
-  → decodeOf (wordOf (nth n families .row op .format .pieces) (withCode (nth n families .row op .code) x)) ≡ Known (nth n families .make op (withCode (nth n families .row op .code) x))
+    → nth n families .row op .format .allows (withCode (nth n families .row op .code) x) ≡ true
+    → decodeOf (wordOf (nth n families .row op .format .pieces) (withCode (nth n families .row op .code) x)) ≡ Known (nth n families .make op (withCode (nth n families .row op .code) x))
 unfolding table
 decoded-at n t k op x v a = decoded-by (entry (nth n families) op) (has-nth n families t op (k .member op)) x v a
 

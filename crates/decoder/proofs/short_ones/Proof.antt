@@ -2,8 +2,8 @@
 use mathlib.Core.Path.{sym, _∙_}
 use lib.Dec.{lit<}
 use borrow.Author.Needs.{needs}
-use Rattle.isa.specs.Decode.{table}
-use Rattle.isa.proofs.Narrow.{narrow, rest, asserted}
+use Rattle.decoder.specs.Decode.{table}
+use Rattle.decoder.proofs.Narrow.{narrow, rest, asserted}
 use Rattle.decoder.proofs.short_ones.Statement.{statement}
 use Rattle.decoder.proofs.short_ones.Tie as tie
 

@@ -102,16 +102,16 @@ shiftRow SrlD = row 0b00000000000110010 r3
 shiftRow SraD = row 0b00000000000110011 r3
 shiftRow RotrD = row 0b00000000000110111 r3
 
--- 2.2.2.2, 2.2.2.4: SLLI.W and the others
+-- 2.2.2.2, 2.2.2.4
 abbrev pub shiftImmediateRow : Shift → Row
-shiftImmediateRow SllW = row 0b00000000010000001 r2i5
-shiftImmediateRow SrlW = row 0b00000000010001001 r2i5
-shiftImmediateRow SraW = row 0b00000000010010001 r2i5
-shiftImmediateRow RotrW = row 0b00000000010011001 r2i5
-shiftImmediateRow SllD = row 0b0000000001000001 r2i6
-shiftImmediateRow SrlD = row 0b0000000001000101 r2i6
-shiftImmediateRow SraD = row 0b0000000001001001 r2i6
-shiftImmediateRow RotrD = row 0b0000000001001101 r2i6
+shiftImmediateRow SllW = row 0b00000000010000001 r2i5  -- SLLI.W
+shiftImmediateRow SrlW = row 0b00000000010001001 r2i5  -- SRLI.W
+shiftImmediateRow SraW = row 0b00000000010010001 r2i5  -- SRAI.W
+shiftImmediateRow RotrW = row 0b00000000010011001 r2i5  -- ROTRI.W
+shiftImmediateRow SllD = row 0b0000000001000001 r2i6  -- SLLI.D
+shiftImmediateRow SrlD = row 0b0000000001000101 r2i6  -- SRLI.D
+shiftImmediateRow SraD = row 0b0000000001001001 r2i6  -- SRAI.D
+shiftImmediateRow RotrD = row 0b0000000001001101 r2i6  -- ROTRI.D
 
 -- 2.2.1.2, 2.2.1.4, 2.2.1.6, 2.2.1.9
 abbrev pub immediateRow : Immediate → Row
@@ -205,15 +205,15 @@ loadRow LdBu = row 0b0010101000 r2i12
 loadRow LdHu = row 0b0010101001 r2i12
 loadRow LdWu = row 0b0010101010 r2i12
 
--- 2.2.5.2: LDX.B and the others
+-- 2.2.5.2
 abbrev pub loadIndexedRow : Load → Row
-loadIndexedRow LdB = row 0b00111000000000000 r3
-loadIndexedRow LdH = row 0b00111000000001000 r3
-loadIndexedRow LdW = row 0b00111000000010000 r3
-loadIndexedRow LdD = row 0b00111000000011000 r3
-loadIndexedRow LdBu = row 0b00111000001000000 r3
-loadIndexedRow LdHu = row 0b00111000001001000 r3
-loadIndexedRow LdWu = row 0b00111000001010000 r3
+loadIndexedRow LdB = row 0b00111000000000000 r3  -- LDX.B
+loadIndexedRow LdH = row 0b00111000000001000 r3  -- LDX.H
+loadIndexedRow LdW = row 0b00111000000010000 r3  -- LDX.W
+loadIndexedRow LdD = row 0b00111000000011000 r3  -- LDX.D
+loadIndexedRow LdBu = row 0b00111000001000000 r3  -- LDX.BU
+loadIndexedRow LdHu = row 0b00111000001001000 r3  -- LDX.HU
+loadIndexedRow LdWu = row 0b00111000001010000 r3  -- LDX.WU
 
 -- 2.2.5.1
 abbrev pub storeRow : Store → Row
@@ -222,12 +222,12 @@ storeRow StH = row 0b0010100101 r2i12
 storeRow StW = row 0b0010100110 r2i12
 storeRow StD = row 0b0010100111 r2i12
 
--- 2.2.5.2: STX.B and the others
+-- 2.2.5.2
 abbrev pub storeIndexedRow : Store → Row
-storeIndexedRow StB = row 0b00111000000100000 r3
-storeIndexedRow StH = row 0b00111000000101000 r3
-storeIndexedRow StW = row 0b00111000000110000 r3
-storeIndexedRow StD = row 0b00111000000111000 r3
+storeIndexedRow StB = row 0b00111000000100000 r3  -- STX.B
+storeIndexedRow StH = row 0b00111000000101000 r3  -- STX.H
+storeIndexedRow StW = row 0b00111000000110000 r3  -- STX.W
+storeIndexedRow StD = row 0b00111000000111000 r3  -- STX.D
 
 -- 2.2.5.3
 abbrev pub pointerRow : Pointer → Row

@@ -5,15 +5,13 @@ use mathlib.Core.Path.{_≡_}
 use mathlib.Core.Bool.{Bool, cond, _&&_}
 use mathlib.Core.List.{List, [], _∷_, _++_}
 use lib.Dec.{eqb}
-use Rattle.isa.specs.Format.{Part, opcode, rd, rj, rk, imm, hint, lsb, msb, Format, values}
-use Rattle.isa.specs.Table.{Row, aluRow, productRow, divisionRow, shiftRow, shiftImmediateRow, immediateRow, upperRow, alslRow, bytepickRow, unaryRow, fieldRow, branchRow, zeroBranchRow, jumpRow, loadRow, loadIndexedRow, storeRow, storeIndexedRow, pointerRow, preloadRow, barrierRow, trapRow, assertRow, configRow}
-use Rattle.isa.specs.declared.Operands.{Operands}
-use Rattle.isa.specs.declared.FieldOperands.{FieldOperands}
-use Rattle.isa.specs.declared.HintOperands.{HintOperands}
+use Rattle.isa.specs.Format.{Part, opcode, values}
+use Rattle.decoder.specs.Table.{Row, aluRow, productRow, divisionRow, shiftRow, shiftImmediateRow, immediateRow, upperRow, alslRow, bytepickRow, unaryRow, fieldRow, branchRow, zeroBranchRow, jumpRow, loadRow, loadIndexedRow, storeRow, storeIndexedRow, pointerRow, preloadRow, barrierRow, trapRow, assertRow, configRow}
+use Rattle.isa.specs.Operands.{operands, fieldOperands, hintOperands}
 use Rattle.isa.specs.declared.Instruction.{Instruction}
 use Rattle.isa.specs.declared.Instruction.the-variants as instruction
 use Rattle.isa.specs.declared.Decoded.{Decoded}
 use Rattle.isa.specs.declared.Decoded.the-variants.{Known, Unknown}
 use Rattle.alu.specs.declared.Alu.{Alu}
 use Rattle.alu.specs.declared.Alu.the-variants.{AddW, AddD, SubW, SubD, Slt, Sltu, And, Or, Nor, Xor, Andn, Orn, Maskeqz, Masknez}
 use Rattle.product.specs.declared.Product.{Product}
@@ -34,38 +32,28 @@ use Rattle.digits.specs.declared.Unary.{Unary}
 use Rattle.digits.specs.declared.Unary.the-variants.{ExtWB, ExtWH, CloW, CloD, ClzW, ClzD, CtoW, CtoD, CtzW, CtzD, Revb2h, Revb4h, Revb2w, RevbD, Revh2w, RevhD, Bitrev4b, Bitrev8b, BitrevW, BitrevD}
 use Rattle.fields.specs.declared.Field.{Field}
 use Rattle.fields.specs.declared.Field.the-variants.{BstrinsW, BstrinsD, BstrpickW, BstrpickD}
 use Rattle.isa.specs.declared.Branch.{Branch}
 use Rattle.isa.specs.declared.Branch.the-variants.{Beq, Bne, Blt, Bge, Bltu, Bgeu}
 use Rattle.isa.specs.declared.ZeroBranch.{ZeroBranch}
 use Rattle.isa.specs.declared.ZeroBranch.the-variants.{Beqz, Bnez}
 use Rattle.isa.specs.declared.Jump.{Jump}
 use Rattle.isa.specs.declared.Jump.the-variants.{B, Bl, Jirl}
 use Rattle.isa.specs.declared.Load.{Load}
 use Rattle.isa.specs.declared.Load.the-variants.{LdB, LdH, LdW, LdD, LdBu, LdHu, LdWu}
 use Rattle.isa.specs.declared.Store.{Store}
 use Rattle.isa.specs.declared.Store.the-variants.{StB, StH, StW, StD}
 use Rattle.isa.specs.declared.Pointer.{Pointer}
 use Rattle.isa.specs.declared.Pointer.the-variants.{LdptrW, LdptrD, StptrW, StptrD}
 use Rattle.isa.specs.declared.Preload.{Preload}
 use Rattle.isa.specs.declared.Preload.the-variants.{Preld, Preldx}
 use Rattle.isa.specs.declared.Barrier.{Barrier}
 use Rattle.isa.specs.declared.Barrier.the-variants.{Dbar, Ibar}
 use Rattle.isa.specs.declared.Trap.{Trap}
 use Rattle.isa.specs.declared.Trap.the-variants.{Syscall, Break}
 use Rattle.isa.specs.declared.Assert.{Assert}
 use Rattle.isa.specs.declared.Assert.the-variants.{AsrtleD, AsrtgtD}
 use Rattle.isa.specs.declared.Config.{Config}
 use Rattle.isa.specs.declared.Config.the-variants.{Cpucfg}
-
--- operands as the word has them
-abbrev pub operands : (Part → ℕ) → Operands
-operands x = record { rd = x rd; rj = x rj; rk = x rk; imm = x imm }
-
-abbrev pub fieldOperands : (Part → ℕ) → FieldOperands
-fieldOperands x = record { rd = x rd; rj = x rj; lsb = x lsb; msb = x msb }
-
-abbrev pub hintOperands : (Part → ℕ) → HintOperands
-hintOperands x = record { hint = x hint; rj = x rj; rk = x rk; imm = x imm }
 
 -- operations that make one kind of instruction
 pub record Family : Type 1 where

@@ -11,12 +11,12 @@ use lib.Pow.{shr-shr, shr-mod}
 use mir.Syntax.{w32}
 use mir.Val.{Fits}
 use borrow.Author.Tests.{eqb-true, eqb-false, eq-eqb, ne-eqb, leb-true, leb-false}
 use Rattle.isa.specs.Format.{opcode, Place, places, gather, values}
-use Rattle.isa.specs.Table.{Row}
-use Rattle.isa.specs.Decode.{Entry, has, decodeIn, table, decodeOf}
+use Rattle.decoder.specs.Table.{Row}
+use Rattle.decoder.specs.Decode.{Entry, has, decodeIn, table, decodeOf}
 use Rattle.isa.specs.declared.Decoded.{Decoded}
 use Rattle.isa.specs.declared.Decoded.the-variants.{Known, Unknown}
 use Rattle.isa.proofs.Places.{Agree, agree, inValue, joins, lone, and-l, and-r}
 
 -- the places of a row's opcode
 abbrev pub codePlaces : Row → List Place
