@@ -211,8 +211,8 @@ halved : (x b : ℕ) {k : ℕ} → x / 2 ≡ k → x % 2 ≡ b → x ≡ k * 2 +
 halved x b h e = omega arith
 
 -- ASRT's opcode: its first bits are known, and the low five decide
-pub asserted : (w : ℕ) {k : ℕ} → w / 2 ^ 15 ≡ k → k < 2 ^ 17 → eqb (w / 2 ^ 15 % 2 ^ 17 * 2 ^ 5 + (w / 2 ^ 0 % 2 ^ 5 * 2 ^ 0 + 0)) (k * 2 ^ 5) && true ≡ eqb (w % 2 ^ 5) 0
-asserted w {k} q l = by (eqb (w % 2 ^ 5) 0) refl
+pub ends-zero : (w : ℕ) {k : ℕ} → w / 2 ^ 15 ≡ k → k < 2 ^ 17 → eqb (w / 2 ^ 15 % 2 ^ 17 * 2 ^ 5 + (w / 2 ^ 0 % 2 ^ 5 * 2 ^ 0 + 0)) (k * 2 ^ 5) && true ≡ eqb (w % 2 ^ 5) 0
+ends-zero w {k} q l = by (eqb (w % 2 ^ 5) 0) refl
   where
     low : w / 2 ^ 0 % 2 ^ 5 * 2 ^ 0 + 0 ≡ w % 2 ^ 5
     low = omega arith

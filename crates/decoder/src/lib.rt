@@ -2,14 +2,10 @@
 // is what the proof of the last arm asks.
 ghost use mathlib.Core.Path.{_≡_};
 ghost use mathlib.Core.Bool.{cond};
-ghost use Prim.Native.Nat.{_/_, _%_, _^_};
-ghost use lib.Dec.{eqb};
-ghost use Rattle.isa.specs.declared.Instruction.the-variants as instruction;
+ghost use Prim.Native.Nat.{_/_, _^_};
 ghost use Rattle.isa.specs.declared.Decoded.the-variants.{Known, Unknown};
-ghost use Rattle.isa.specs.Format.{values, r1i20};
-ghost use Rattle.isa.specs.Operands.{operands};
 ghost use Rattle.decoder.specs.Decode.{decodeOf, Decodes};
-ghost use Rattle.decoder.specs.Found.{threeR, twoR, access, indexedAccess};
+ghost use Rattle.decoder.specs.Found.{threeR, twoR, access, indexedAccess, assertion, wordShift, doubleField, upperPair};
 use alu::Alsl;
 use alu::Alu;
 use alu::Immediate;
@@ -111,6 +107,36 @@ fn only_if(exists: bool, i: Instruction) -> Decoded
     } else {
         Decoded::Unknown
     }
+}
+
+// ASRT: bits 4:0 are zero.
+fn assert(word: u32, op: Assert) -> Decoded
+    ensures { λ r. ⌜ r ≡ assertion word op ⌝ }
+{
+    only_if(
+        word % 0x20 == 0,
+        Instruction::Assert(op, isa::of_asrt(word)),
+    )
+}
+
+// A shift of a word by an immediate: bit 15 is set.
+fn word_shift(word: u32, op: Shift) -> Decoded
+    ensures { λ r. ⌜ r ≡ wordShift word op ⌝ }
+{
+    only_if(
+        word / 0x8000 % 2 == 1,
+        Instruction::ShiftImmediate(op, isa::of_r2i5(word)),
+    )
+}
+
+// A bit field of a double word: msb is not below lsb.
+fn double_field(word: u32, op: Field) -> Decoded
+    ensures { λ r. ⌜ r ≡ doubleField word op ⌝ }
+{
+    only_if(
+        isa::field_d_exists(word),
+        Instruction::Field(op, isa::of_field_d(word)),
+    )
 }
 
 // ADD, SUB, SLT, MASKEQZ and MASKNEZ.
@@ -252,14 +278,8 @@ fn short_ones(word: u32) -> Decoded
 {
     match word / 0x8000 {
         0x0 => two(unaries(word), word),
-        0x2 => only_if(
-            word % 0x20 == 0,
-            Instruction::Assert(Assert::AsrtleD, isa::of_asrt(word)),
-        ),
-        0x3 => only_if(
-            word % 0x20 == 0,
-            Instruction::Assert(Assert::AsrtgtD, isa::of_asrt(word)),
-        ),
+        0x2 => assert(word, Assert::AsrtleD),
+        0x3 => assert(word, Assert::AsrtgtD),
         _ => Decoded::Unknown,
     }
 }
@@ -326,22 +346,10 @@ fn shift_immediates(word: u32) -> Decoded
     ensures { λ r. ⌜ r ≡ decodeOf word ⌝ }
 {
     match word / 0x1_0000 {
-        0x40 => only_if(
-            word / 0x8000 % 2 == 1,
-            Instruction::ShiftImmediate(Shift::SllW, isa::of_r2i5(word)),
-        ),
-        0x44 => only_if(
-            word / 0x8000 % 2 == 1,
-            Instruction::ShiftImmediate(Shift::SrlW, isa::of_r2i5(word)),
-        ),
-        0x48 => only_if(
-            word / 0x8000 % 2 == 1,
-            Instruction::ShiftImmediate(Shift::SraW, isa::of_r2i5(word)),
-        ),
-        0x4c => only_if(
-            word / 0x8000 % 2 == 1,
-            Instruction::ShiftImmediate(Shift::RotrW, isa::of_r2i5(word)),
-        ),
+        0x40 => word_shift(word, Shift::SllW),
+        0x44 => word_shift(word, Shift::SrlW),
+        0x48 => word_shift(word, Shift::SraW),
+        0x4c => word_shift(word, Shift::RotrW),
         0x41 => Decoded::Known(Instruction::ShiftImmediate(Shift::SllD, isa::of_r2i6(word))),
         0x45 => Decoded::Known(Instruction::ShiftImmediate(Shift::SrlD, isa::of_r2i6(word))),
         0x49 => Decoded::Known(Instruction::ShiftImmediate(Shift::SraD, isa::of_r2i6(word))),
@@ -392,21 +400,15 @@ fn zeros(word: u32) -> Decoded
         0xd => Decoded::Known(Instruction::Immediate(Immediate::Andi, isa::of_r2i12(word))),
         0xe => Decoded::Known(Instruction::Immediate(Immediate::Ori, isa::of_r2i12(word))),
         0xf => Decoded::Known(Instruction::Immediate(Immediate::Xori, isa::of_r2i12(word))),
-        0x2 => only_if(
-            isa::field_d_exists(word),
-            Instruction::Field(Field::BstrinsD, isa::of_field_d(word)),
-        ),
-        0x3 => only_if(
-            isa::field_d_exists(word),
-            Instruction::Field(Field::BstrpickD, isa::of_field_d(word)),
-        ),
+        0x2 => double_field(word, Field::BstrinsD),
+        0x3 => double_field(word, Field::BstrpickD),
         _ => Decoded::Unknown,
     }
 }
 
 // Two operations that differ in bit 25.
 fn uppers(word: u32, clear: Upper, set: Upper) -> Decoded
-    ensures { λ r. ⌜ r ≡ cond (eqb (word / 2 ^ 25 % 2) 1) (Known (instruction.Upper set (operands (values r1i20 word)))) (Known (instruction.Upper clear (operands (values r1i20 word)))) ⌝ }
+    ensures { λ r. ⌜ r ≡ upperPair word clear set ⌝ }
 {
     let o = isa::of_r1i20(word);
     if word / 0x200_0000 % 2 == 1 {

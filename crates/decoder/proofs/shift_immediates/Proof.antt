@@ -1,4 +1,5 @@
 -- `decoder::shift_immediates` meets its contract: a line for each arm, and the last one by a law over the table. Assumes nothing.
+use mathlib.Core.Path.{_∙_}
 use borrow.Author.Needs.{needs}
 use Rattle.decoder.specs.Decode.{table}
 use Rattle.decoder.proofs.Narrow.{leaf, rest, bit}
@@ -10,18 +11,18 @@ unfolding table
 shift-immediates-spec =
     tie.close
     (tie.spec
-    (λ c κs. search needs) (λ c κs. search needs)
-    (λ c κs. search needs) (λ c κs. search needs)
-    (λ c κs. search needs) (λ c κs. search needs)
-    (λ c κs. search needs) (λ c κs. search needs)
     (λ c κs. search needs)
     (λ c κs. search needs)
     (λ c κs. search needs)
     (λ c κs. search needs)
-    (λ c. rw (c .only-if .ensures, c .before .of-r2i5 .ensures) (bit (c .before .before .before .fits .word) 15 (c .before .before .match .keys1) tt tt))
-    (λ c. rw (c .only-if2 .ensures, c .before .of-r2i52 .ensures) (bit (c .before .before .before .fits .word) 15 (c .before .before .match .keys2) tt tt))
-    (λ c. rw (c .only-if3 .ensures, c .before .of-r2i53 .ensures) (bit (c .before .before .before .fits .word) 15 (c .before .before .match .keys3) tt tt))
-    (λ c. rw (c .only-if4 .ensures, c .before .of-r2i54 .ensures) (bit (c .before .before .before .fits .word) 15 (c .before .before .match .keys4) tt tt))
+    (λ c κs. search needs)
+    (λ c κs. search needs)
+    (λ c κs. search needs)
+    (λ c κs. search needs)
+    (λ c. c .word-shift .ensures ∙ bit (c .before .before .fits .word) 15 (c .before .match .keys1) tt tt)
+    (λ c. c .word-shift2 .ensures ∙ bit (c .before .before .fits .word) 15 (c .before .match .keys2) tt tt)
+    (λ c. c .word-shift3 .ensures ∙ bit (c .before .before .fits .word) 15 (c .before .match .keys3) tt tt)
+    (λ c. c .word-shift4 .ensures ∙ bit (c .before .before .fits .word) 15 (c .before .match .keys4) tt tt)
     (λ c. rw (c .of-r2i6 .ensures) (leaf (c .before .before .fits .word) 16 (c .before .match .keys5) tt))
     (λ c. rw (c .of-r2i62 .ensures) (leaf (c .before .before .fits .word) 16 (c .before .match .keys6) tt))
     (λ c. rw (c .of-r2i63 .ensures) (leaf (c .before .before .fits .word) 16 (c .before .match .keys7) tt))

@@ -3,7 +3,7 @@ use mathlib.Core.Path.{sym, _∙_}
 use lib.Dec.{lit<}
 use borrow.Author.Needs.{needs}
 use Rattle.decoder.specs.Decode.{table}
-use Rattle.decoder.proofs.Narrow.{narrow, rest, asserted}
+use Rattle.decoder.proofs.Narrow.{narrow, rest, ends-zero}
 use Rattle.decoder.proofs.short_ones.Statement.{statement}
 use Rattle.decoder.proofs.short_ones.Tie as tie
 
@@ -13,9 +13,9 @@ short-ones-spec =
     tie.close
     (tie.spec
     (λ c κs. c .match .keys1) (λ c κs. search needs)
-    (λ c κs. search needs) (λ c κs. search needs)
-    (λ c κs. search needs) (λ c κs. search needs)
+    (λ c κs. search needs)
+    (λ c κs. search needs)
     (λ c. c .two .ensures ∙ c .before .unaries .ensures)
-    (λ c. rw (c .only-if .ensures, c .before .of-asrt .ensures, ← asserted (c .before .before .before .args .word) (c .before .before .match .keys2) (lit< tt)) (sym (narrow (c .before .before .before .fits .word) 15 (c .before .before .match .keys2))))
-    (λ c. rw (c .only-if2 .ensures, c .before .of-asrt2 .ensures, ← asserted (c .before .before .before .args .word) (c .before .before .match .keys3) (lit< tt)) (sym (narrow (c .before .before .before .fits .word) 15 (c .before .before .match .keys3))))
+    (λ c. c .assert .ensures ∙ rw (← ends-zero (c .before .before .args .word) (c .before .match .keys2) (lit< tt)) (sym (narrow (c .before .before .fits .word) 15 (c .before .match .keys2))))
+    (λ c. c .assert2 .ensures ∙ rw (← ends-zero (c .before .before .args .word) (c .before .match .keys3) (lit< tt)) (sym (narrow (c .before .before .fits .word) 15 (c .before .match .keys3))))
     (λ c. rest (c .before .fits .word) 18 15 (c .before .pre) (c .match .rest) tt))

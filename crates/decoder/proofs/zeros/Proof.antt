@@ -1,4 +1,5 @@
 -- `decoder::zeros` meets its contract: a line for each arm, and the last one by a law over the table. Assumes nothing.
+use mathlib.Core.Path.{_∙_}
 use borrow.Author.Needs.{needs}
 use Rattle.decoder.specs.Decode.{table}
 use Rattle.decoder.proofs.Narrow.{leaf, rest}
@@ -20,8 +21,8 @@ zeros-spec =
     (λ c κs. search needs)
     (λ c κs. search needs)
     (λ c κs. search needs)
-    (λ c κs. search needs) (λ c κs. search needs) (λ c κs. search needs)
-    (λ c κs. search needs) (λ c κs. search needs) (λ c κs. search needs)
+    (λ c κs. search needs)
+    (λ c κs. search needs)
     (λ c. c .registers .ensures)
     (λ c. c .short-immediates .ensures)
     (λ c. rw (c .of-r2i12 .ensures) (leaf (c .before .before .fits .word) 22 (c .before .match .keys3) tt))
@@ -32,6 +33,6 @@ zeros-spec =
     (λ c. rw (c .of-r2i126 .ensures) (leaf (c .before .before .fits .word) 22 (c .before .match .keys8) tt))
     (λ c. rw (c .of-r2i127 .ensures) (leaf (c .before .before .fits .word) 22 (c .before .match .keys9) tt))
     (λ c. rw (c .of-r2i128 .ensures) (leaf (c .before .before .fits .word) 22 (c .before .match .keys10) tt))
-    (λ c. rw (c .only-if .ensures, c .before .of-field-d .ensures, c .before .before .field-d-exists .ensures) (leaf (c .before .before .before .before .fits .word) 22 (c .before .before .before .match .keys11) tt))
-    (λ c. rw (c .only-if2 .ensures, c .before .of-field-d2 .ensures, c .before .before .field-d-exists2 .ensures) (leaf (c .before .before .before .before .fits .word) 22 (c .before .before .before .match .keys12) tt))
+    (λ c. c .double-field .ensures ∙ leaf (c .before .before .fits .word) 22 (c .before .match .keys11) tt)
+    (λ c. c .double-field2 .ensures ∙ leaf (c .before .before .fits .word) 22 (c .before .match .keys12) tt)
     (λ c. rest (c .before .fits .word) 26 22 (c .before .pre) (c .match .rest) tt))

@@ -1,0 +1,258 @@
+// Holds the decoder to a recording of an independent disassembler (tools/record-words), and prints for each mnemonic how many
+// words there were and how many of them differ. A line is
+//     L 02c01c04 05 01 addi.d       04 00 00 00000007
+// where L is what the disassembler prints; N a word that it does not know, or that is no instruction of document 01; H one that
+// document 01 says does not exist. Then the word, the numbers of a family and of an operation of it, the mnemonic, and the
+// operands by the names of `Numbers`.
+mod place;
+mod text;
+
+use isa::Decoded;
+use isa::FieldOperands;
+use isa::HintOperands;
+use isa::Instruction;
+use isa::Operands;
+use libc::STDIN_FILENO;
+use libc::STDOUT_FILENO;
+
+// The length of a line, with its newline.
+const LINE: usize = 48;
+
+// An instruction as numbers. PRELD and PRELDX have hint in the place of rd, a bit field lsb in that of rk and msb in that of imm.
+struct Numbers {
+    family: u64,
+    op: u64,
+    rd: u8,
+    rj: u8,
+    rk: u8,
+    imm: u32,
+}
+
+// The mnemonic that is being counted, by its two numbers, and its counts; then those of the whole input.
+struct Tally {
+    family: u64,
+    op: u64,
+    words: u64,
+    differ: u64,
+    all: u64,
+    printed: u64,
+    not_there: u64,
+    house: u64,
+    all_differ: u64,
+}
+
+fn read_numbers(line: &[u8]) -> Numbers {
+    Numbers {
+        family: text::number(line, 11, 2),
+        op: text::number(line, 14, 2),
+        rd: text::pair(line, 30),
+        rj: text::pair(line, 33),
+        rk: text::pair(line, 36),
+        imm: text::half(line, 39),
+    }
+}
+
+// The three kinds of operands as numbers: each field goes where the recording has it.
+fn plain(family: u64, op: u64, o: Operands) -> Numbers {
+    Numbers {
+        family,
+        op,
+        rd: o.rd,
+        rj: o.rj,
+        rk: o.rk,
+        imm: o.imm,
+    }
+}
+
+fn field(family: u64, op: u64, o: FieldOperands) -> Numbers {
+    Numbers {
+        family,
+        op,
+        rd: o.rd,
+        rj: o.rj,
+        rk: o.lsb,
+        imm: o.msb,
+    }
+}
+
+fn hint(family: u64, op: u64, o: HintOperands) -> Numbers {
+    Numbers {
+        family,
+        op,
+        rd: o.hint,
+        rj: o.rj,
+        rk: o.rk,
+        imm: o.imm,
+    }
+}
+
+// Families are numbered in the order of the enum.
+fn numbers_of(i: Instruction) -> Numbers {
+    match i {
+        Instruction::Alu(op, o) => plain(0, place::alu_number(op), o),
+        Instruction::Product(op, o) => plain(1, place::product_number(op), o),
+        Instruction::Division(op, o) => plain(2, place::division_number(op), o),
+        Instruction::Shift(op, o) => plain(3, place::shift_number(op), o),
+        Instruction::ShiftImmediate(op, o) => plain(4, place::shift_number(op), o),
+        Instruction::Immediate(op, o) => plain(5, place::immediate_number(op), o),
+        Instruction::Upper(op, o) => plain(6, place::upper_number(op), o),
+        Instruction::Alsl(op, o) => plain(7, place::alsl_number(op), o),
+        Instruction::Bytepick(op, o) => plain(8, place::bytepick_number(op), o),
+        Instruction::Unary(op, o) => plain(9, place::unary_number(op), o),
+        Instruction::Field(op, o) => field(10, place::field_number(op), o),
+        Instruction::Branch(op, o) => plain(11, place::branch_number(op), o),
+        Instruction::ZeroBranch(op, o) => plain(12, place::zero_branch_number(op), o),
+        Instruction::Jump(op, o) => plain(13, place::jump_number(op), o),
+        Instruction::Load(op, o) => plain(14, place::load_number(op), o),
+        Instruction::LoadIndexed(op, o) => plain(15, place::load_number(op), o),
+        Instruction::Store(op, o) => plain(16, place::store_number(op), o),
+        Instruction::StoreIndexed(op, o) => plain(17, place::store_number(op), o),
+        Instruction::Pointer(op, o) => plain(18, place::pointer_number(op), o),
+        Instruction::Preload(op, o) => hint(19, place::preload_number(op), o),
+        Instruction::Barrier(op, o) => plain(20, place::barrier_number(op), o),
+        Instruction::Trap(op, o) => plain(21, place::trap_number(op), o),
+        Instruction::Assert(op, o) => plain(22, place::assert_number(op), o),
+        Instruction::Config(_, o) => plain(23, 0, o),
+    }
+}
+
+fn same(a: Numbers, b: Numbers) -> bool {
+    let operation = a.family == b.family && a.op == b.op;
+    let registers = a.rd == b.rd && a.rj == b.rj && a.rk == b.rk;
+    operation && registers && a.imm == b.imm
+}
+
+// Whether the decoder says what the line says. A letter that there is not agrees with nothing.
+fn agrees(line: &[u8]) -> bool {
+    let letter = text::byte(line, 0);
+    let d = decoder::decode(text::half(line, 2));
+    match d {
+        Decoded::Known(i) => letter == b'L' && same(numbers_of(i), read_numbers(line)),
+        Decoded::Unknown => letter == b'N' || letter == b'H',
+    }
+}
+
+fn print_counts(t: Tally) {
+    if t.words == 0 {
+        return;
+    }
+    io::print_decimal(STDOUT_FILENO, t.words);
+    io::write_all(STDOUT_FILENO, b" words, ");
+    io::print_decimal(STDOUT_FILENO, t.differ);
+    io::write_all(STDOUT_FILENO, b" differ\n");
+}
+
+fn print_totals(t: Tally) {
+    io::print_decimal(STDOUT_FILENO, t.all);
+    io::write_all(STDOUT_FILENO, b" words: L ");
+    io::print_decimal(STDOUT_FILENO, t.printed);
+    io::write_all(STDOUT_FILENO, b", N ");
+    io::print_decimal(STDOUT_FILENO, t.not_there);
+    io::write_all(STDOUT_FILENO, b", H ");
+    io::print_decimal(STDOUT_FILENO, t.house);
+    io::write_all(STDOUT_FILENO, b", ");
+    io::print_decimal(STDOUT_FILENO, t.all_differ);
+    io::write_all(STDOUT_FILENO, b" differ\n");
+}
+
+// The tally that a line of this mnemonic belongs to: the same, or a new one under the mnemonic's name.
+fn tally_for(t: Tally, line: &[u8]) -> Tally {
+    let family = text::number(line, 11, 2);
+    let op = text::number(line, 14, 2);
+    if t.words != 0 && t.family == family && t.op == op {
+        return t;
+    }
+    print_counts(t);
+    io::write_all(STDOUT_FILENO, text::part(line, 17, 13));
+    Tally {
+        family,
+        op,
+        words: 0,
+        differ: 0,
+        all: t.all,
+        printed: t.printed,
+        not_there: t.not_there,
+        house: t.house,
+        all_differ: t.all_differ,
+    }
+}
+
+// One more where the condition holds. The counts are smaller than the input's length, so none wraps.
+fn more_if(count: u64, yes: bool) -> u64 {
+    if yes {
+        std::num::wrapping_add_u64(count, 1)
+    } else {
+        count
+    }
+}
+
+// Counts one line; a line that differs is printed.
+fn count_line(before: Tally, line: &[u8]) -> Tally {
+    let t = tally_for(before, line);
+    let letter = text::byte(line, 0);
+    let differs = !agrees(line);
+    if differs {
+        io::write_all(STDOUT_FILENO, b"\n");
+        io::write_all(STDOUT_FILENO, line);
+    }
+    Tally {
+        family: t.family,
+        op: t.op,
+        words: more_if(t.words, true),
+        differ: more_if(t.differ, differs),
+        all: more_if(t.all, true),
+        printed: more_if(t.printed, letter == b'L'),
+        not_there: more_if(t.not_there, letter == b'N'),
+        house: more_if(t.house, letter == b'H'),
+        all_differ: more_if(t.all_differ, differs),
+    }
+}
+
+// The tally after one more line, and whether there was one.
+struct Turn {
+    more: bool,
+    tally: Tally,
+}
+
+fn take_line(t: Tally) -> Turn {
+    let mut line = [0u8; LINE];
+    let n = io::read_full(STDIN_FILENO, &mut line);
+    if n == LINE {
+        Turn {
+            more: true,
+            tally: count_line(t, &line),
+        }
+    } else {
+        Turn {
+            more: false,
+            tally: t,
+        }
+    }
+}
+
+// A proved loop has to end, and nothing says that the input does: so the turns are counted down from a number that no run uses up.
+fn main() {
+    let mut t = Tally {
+        family: 0,
+        op: 0,
+        words: 0,
+        differ: 0,
+        all: 0,
+        printed: 0,
+        not_there: 0,
+        house: 0,
+        all_differ: 0,
+    };
+    let mut turns = u64::MAX;
+    while turns > 0 {
+        let s = take_line(t);
+        t = s.tally;
+        if s.more {
+            turns -= 1;
+        } else {
+            turns = 0;
+        }
+    }
+    print_counts(t);
+    print_totals(t);
+}
