@@ -5,7 +5,6 @@
 // document 01 says does not exist. Then the word, the numbers of a family and of an operation of it, the mnemonic, and the
 // operands by the names of `Numbers`.
 mod place;
-mod text;
 
 use isa::Decoded;
 use isa::FieldOperands;

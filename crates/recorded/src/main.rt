@@ -3,7 +3,6 @@
 //     Q 00 00 add.w        rd rj rk pc field field value
 // where Q is what the emulator left in rd, H what document 01 says; the two numbers are a family and an operation of it.
 mod choose;
-mod text;
 
 use libc::STDIN_FILENO;
 use libc::STDOUT_FILENO;

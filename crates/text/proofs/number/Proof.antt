@@ -1,9 +1,9 @@
--- `disassembled::text::number` is safe and ends: v is cut before each digit, and the turns left fall. Assumes nothing.
+-- `text::number` is safe and ends: v is cut before each digit, and the turns left fall. Assumes nothing.
 use Prim.Native.Nat.{_-_, _≤_}
 use native.Mathlib.Omega.{arith}
 use borrow.Author.Needs.{needs}
-use Rattle.disassembled.proofs.text.number.Statement.{statement}
-use Rattle.disassembled.proofs.text.number.Tie as tie
+use Rattle.text.proofs.number.Statement.{statement}
+use Rattle.text.proofs.number.Tie as tie
 
 abbrev Inv-loop : tie.InvT-loop
 Inv-loop s at n v₀ i₀ v i = i ≤ n
