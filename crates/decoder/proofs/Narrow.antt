@@ -13,7 +13,8 @@ use mir.Val.{Fits}
 use borrow.Author.Tests.{eqb-true, eqb-false, eq-eqb, ne-eqb, leb-true, leb-false}
 use Rattle.isa.specs.Format.{opcode, Place, places, gather, values}
 use Rattle.decoder.specs.Table.{Row}
-use Rattle.decoder.specs.Decode.{Entry, has, decodeIn, table, decodeOf}
+use Rattle.decoder.specs.Families.{Entry, table}
+use Rattle.decoder.specs.Decode.{has, decodeIn, decodeOf}
 use Rattle.isa.specs.declared.Decoded.{Decoded}
 use Rattle.isa.specs.declared.Decoded.the-variants.{Known, Unknown}
 use Rattle.isa.proofs.Places.{Agree, agree, inValue, joins, lone, and-l, and-r}
@@ -103,13 +104,13 @@ abbrev pub Misses : Type 0 → List ℕ → ℕ → Type 0
 Misses P [] x = P
 Misses P (k ∷ ks) x = Misses (P × (x ≡ k → ⊥)) ks x
 
-split-or : (a b : Bool) {X : Type 0} → (T a → X) → (T b → X) → T (a || b) → X
-split-or true b f g t = f tt
-split-or false b f g t = g t
+pub or-else : (a b : Bool) {X : Type 0} → (T a → X) → (T b → X) → T (a || b) → X
+or-else true b f g t = f tt
+or-else false b f g t = g t
 
 missed : {P : Type 0} (ks : List ℕ) (x : ℕ) → Misses P ks x → P × (T (member x ks) → ⊥)
 missed [] x p = (p, λ t. t)
-missed {P} (k ∷ ks) x p = let r = missed {P = P × (x ≡ k → ⊥)} ks x p in (r .0 .0, split-or (eqb x k) (member x ks) (λ t. r .0 .1 (eqb→eq x k t)) (r .1))
+missed {P} (k ∷ ks) x p = let r = missed {P = P × (x ≡ k → ⊥)} ks x p in (r .0 .0, or-else (eqb x k) (member x ks) (λ t. r .0 .1 (eqb→eq x k t)) (r .1))
 
 -- a row whose words begin with one of the keys
 abbrev pub among : ℕ → List ℕ → Row → Bool

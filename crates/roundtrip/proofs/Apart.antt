@@ -8,10 +8,11 @@ use lib.Dec.{T, eqb, leb, eqb→eq, leb→le, T-not}
 use lib.Pow.{shr-shr, field}
 use Rattle.isa.specs.Format.{Place, values}
 use Rattle.decoder.specs.Table.{Row}
-use Rattle.decoder.specs.Decode.{Entry, has, decodeIn, table}
+use Rattle.decoder.specs.Families.{Entry, table}
+use Rattle.decoder.specs.Decode.{has, decodeIn}
 use Rattle.isa.specs.declared.Decoded.the-variants.{Known}
 use Rattle.isa.proofs.Places.{Agree, inValue, inWord, joins, and-l, and-r}
-use Rattle.decoder.proofs.Narrow.{codePlaces, every, agrees, tested}
+use Rattle.decoder.proofs.Narrow.{codePlaces, every, agrees, tested, or-else}
 
 -- at two places that end at the same bit, the first from no higher bit on, two opcodes have other bits
 abbrev differ : Place → ℕ → Place → ℕ → Bool
@@ -58,10 +59,6 @@ module _ (c d w : ℕ) where
       let u = and-r (eqb (a .size + a .at) (b .size + b .at)) _ t in
       T-not (eqb (inValue a c / 2 ^ (b .at - a .at)) (inValue b d)) (and-r (leb (a .at) (b .at)) _ u)
       (tested (ap (λ (n : ℕ). n / 2 ^ (b .at - a .at)) p ∙ upper-bits a b w (eqb→eq _ _ (and-l (eqb (a .size + a .at) (b .size + b .at)) _ t)) (leb→le _ _ (and-l (leb (a .at) (b .at)) _ u)) ∙ sym q))
-
-or-else : (a b : Bool) {X : Type 0} → (T a → X) → (T b → X) → T (a || b) → X
-or-else true b f g t = f tt
-or-else false b f g t = g t
 
 module _ (c d w : ℕ) where
   not-against : (s : Place) → inValue s c ≡ inWord s w → (ts : List Place) → Agree ts d w → T (against s c ts d) → ⊥

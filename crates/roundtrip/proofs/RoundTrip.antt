@@ -12,7 +12,8 @@ use borrow.Author.Tests.{eqb-true, eq-eqb}
 use Rattle.isa.specs.Format.{Part, opcode, rd, rj, rk, imm, hint, lsb, msb, same, Format, places, filled, wordOf, values, width}
 use Rattle.decoder.specs.Table.{Row}
 use Rattle.isa.specs.Operands.{operands, fieldOperands, hintOperands}
-use Rattle.decoder.specs.Decode.{Family, Entry, entry, entries, allEntries, families, has, decodeIn, table, decodeOf, Decodes, alu, product, division, shift, shiftImmediate, immediate, upper, alsl, bytepick, unary, field, branch, zeroBranch, jump, load, loadIndexed, store, storeIndexed, pointer, preload, barrier, trap, assert, config}
+use Rattle.decoder.specs.Families.{Family, Entry, entry, entries, allEntries, families, table, alu, product, division, shift, shiftImmediate, immediate, upper, alsl, bytepick, unary, field, branch, zeroBranch, jump, load, loadIndexed, store, storeIndexed, pointer, preload, barrier, trap, assert, config}
+use Rattle.decoder.specs.Decode.{has, decodeIn, decodeOf, Decodes}
 use Rattle.roundtrip.specs.Encode.{ofOperands, ofFieldOperands, ofHintOperands, operandsOf, rowOf, withCode, partsOf, encodeOf, InRange}
 use Rattle.isa.specs.declared.Instruction.{Instruction}
 use Rattle.isa.specs.declared.Instruction.the-variants as instruction

@@ -2,7 +2,7 @@
 use mathlib.Core.Path.{sym, _∙_}
 use lib.Dec.{lit<}
 use borrow.Author.Needs.{needs}
-use Rattle.decoder.specs.Decode.{table}
+use Rattle.decoder.specs.Families.{table}
 use Rattle.decoder.proofs.Narrow.{narrow, rest, ends-zero}
 use Rattle.decoder.proofs.short_ones.Statement.{statement}
 use Rattle.decoder.proofs.short_ones.Tie as tie

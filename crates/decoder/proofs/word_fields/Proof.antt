@@ -1,7 +1,7 @@
 -- `decoder::word_fields` meets its contract: the first bits and bit 15 are all of the opcode. Assumes nothing.
 use mathlib.Core.Path.{refl, sym, _∙_}
 use borrow.Author.Needs.{needs}
-use Rattle.decoder.specs.Decode.{table}
+use Rattle.decoder.specs.Families.{table}
 use Rattle.decoder.proofs.Narrow.{narrow, bit-one}
 use Rattle.decoder.proofs.word_fields.Statement.{statement}
 use Rattle.decoder.proofs.word_fields.Tie as tie
