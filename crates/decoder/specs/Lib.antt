@@ -1,4 +1,1 @@
-pub mod Table
-pub mod Families
-pub mod Decode
 pub mod Found

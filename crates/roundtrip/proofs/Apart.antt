@@ -7,12 +7,12 @@ use mathlib.Core.List.{List, [], _∷_}
 use lib.Dec.{T, eqb, leb, eqb→eq, leb→le, T-not}
 use lib.Pow.{shr-shr, field}
 use Rattle.isa.specs.Format.{Place, values}
-use Rattle.decoder.specs.Table.{Row}
-use Rattle.decoder.specs.Families.{Entry, table}
-use Rattle.decoder.specs.Decode.{has, decodeIn}
+use Rattle.opcode.specs.Table.{Row}
+use Rattle.opcode.specs.Families.{Entry, table}
+use Rattle.opcode.specs.Decode.{has, decodeIn}
 use Rattle.isa.specs.declared.Decoded.the-variants.{Known}
 use Rattle.isa.proofs.Places.{Agree, inValue, inWord, joins, and-l, and-r}
-use Rattle.decoder.proofs.Narrow.{codePlaces, every, agrees, tested, or-else}
+use Rattle.opcode.proofs.Narrow.{codePlaces, every, agrees, tested, or-else}
 
 -- at two places that end at the same bit, the first from no higher bit on, two opcodes have other bits
 abbrev differ : Place → ℕ → Place → ℕ → Bool

@@ -10,17 +10,17 @@ use lib.Dec.{T, eqb, ltb, eqb→eq, ltb→lt}
 use lib.Pow.{pow-pos}
 use borrow.Author.Tests.{eqb-true, eq-eqb}
 use Rattle.isa.specs.Format.{Part, opcode, rd, rj, rk, imm, hint, lsb, msb, same, Format, places, filled, wordOf, values, width}
-use Rattle.decoder.specs.Table.{Row}
+use Rattle.opcode.specs.Table.{Row}
 use Rattle.isa.specs.Operands.{operands, fieldOperands, hintOperands}
-use Rattle.decoder.specs.Families.{Family, Entry, entry, entries, allEntries, families, table, alu, product, division, shift, shiftImmediate, immediate, upper, alsl, bytepick, unary, field, branch, zeroBranch, jump, load, loadIndexed, store, storeIndexed, pointer, preload, barrier, trap, assert, config}
-use Rattle.decoder.specs.Decode.{has, decodeIn, decodeOf, Decodes}
+use Rattle.opcode.specs.Families.{Family, Entry, entry, entries, allEntries, families, table, alu, product, division, shift, shiftImmediate, immediate, upper, alsl, bytepick, unary, field, branch, zeroBranch, jump, load, loadIndexed, store, storeIndexed, pointer, preload, barrier, trap, assert, config}
+use Rattle.opcode.specs.Decode.{has, decodeIn, decodeOf, Decodes}
 use Rattle.roundtrip.specs.Encode.{ofOperands, ofFieldOperands, ofHintOperands, operandsOf, rowOf, withCode, partsOf, encodeOf, InRange}
 use Rattle.isa.specs.declared.Instruction.{Instruction}
 use Rattle.isa.specs.declared.Instruction.the-variants as instruction
 use Rattle.isa.specs.declared.Decoded.{Decoded}
 use Rattle.isa.specs.declared.Decoded.the-variants.{Known, Unknown}
 use Rattle.isa.proofs.Places.{Agree, joins, agree, read-back, gather-lt, and-l, and-r}
-use Rattle.decoder.proofs.Narrow.{every, both-l}
+use Rattle.opcode.proofs.Narrow.{every, both-l}
 use Rattle.roundtrip.proofs.Words.{word-lt, agreed, laid}
 use Rattle.roundtrip.proofs.Apart.{Has, here, there, every-of, joined, apart, rows-apart, found}
 use Rattle.roundtrip.proofs.Enumerated as enum

@@ -4,8 +4,8 @@ use mathlib.Core.Bool.{Bool, true, false, _&&_}
 use mathlib.Core.List.{List, [], _∷_}
 use Prim.Native.Nat.{ℕ}
 use Rattle.isa.specs.Format.{wordOf}
-use Rattle.decoder.specs.Families.{Entry, table}
-use Rattle.decoder.specs.Decode.{decodeOf}
+use Rattle.opcode.specs.Families.{Entry, table}
+use Rattle.opcode.specs.Decode.{decodeOf}
 use Rattle.roundtrip.specs.Encode.{withCode}
 use Rattle.isa.specs.declared.Operands.{Operands}
 use Rattle.isa.specs.declared.FieldOperands.{FieldOperands}

@@ -3,7 +3,7 @@ use Prim.Native.Nat.{ℕ, _+_, _^_, _<_}
 use mathlib.Core.Path.{_≡_}
 use mathlib.Core.Bool.{true, cond}
 use Rattle.isa.specs.Format.{Part, opcode, rd, rj, rk, imm, hint, lsb, msb, same, wordOf, width}
-use Rattle.decoder.specs.Table.{Row, aluRow, productRow, divisionRow, shiftRow, shiftImmediateRow, immediateRow, upperRow, alslRow, bytepickRow, unaryRow, fieldRow, branchRow, zeroBranchRow, jumpRow, loadRow, loadIndexedRow, storeRow, storeIndexedRow, pointerRow, preloadRow, barrierRow, trapRow, assertRow, configRow}
+use Rattle.opcode.specs.Table.{Row, aluRow, productRow, divisionRow, shiftRow, shiftImmediateRow, immediateRow, upperRow, alslRow, bytepickRow, unaryRow, fieldRow, branchRow, zeroBranchRow, jumpRow, loadRow, loadIndexedRow, storeRow, storeIndexedRow, pointerRow, preloadRow, barrierRow, trapRow, assertRow, configRow}
 use Rattle.isa.specs.declared.Operands.{Operands}
 use Rattle.isa.specs.declared.FieldOperands.{FieldOperands}
 use Rattle.isa.specs.declared.HintOperands.{HintOperands}

@@ -1,8 +1,8 @@
 -- `decoder::decode` meets its contract: a line for each arm, and the last one by a law over the table. Assumes nothing.
 use mathlib.Core.Path.{_∙_}
 use borrow.Author.Needs.{needs}
-use Rattle.decoder.specs.Families.{table}
-use Rattle.decoder.proofs.Narrow.{leaf, rest, bit, zero-high}
+use Rattle.opcode.specs.Families.{table}
+use Rattle.opcode.proofs.Narrow.{leaf, rest, bit, zero-high}
 use Rattle.decoder.proofs.decode.Statement.{statement}
 use Rattle.decoder.proofs.decode.Tie as tie
 

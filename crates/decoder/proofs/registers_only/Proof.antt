@@ -1,8 +1,8 @@
 -- `decoder::registers_only` meets its contract: a line for each arm, and the last one by a law over the table. Assumes nothing.
 use mathlib.Core.Path.{_∙_}
 use borrow.Author.Needs.{needs}
-use Rattle.decoder.specs.Families.{table}
-use Rattle.decoder.proofs.Narrow.{rest}
+use Rattle.opcode.specs.Families.{table}
+use Rattle.opcode.proofs.Narrow.{rest}
 use Rattle.decoder.proofs.registers_only.Statement.{statement}
 use Rattle.decoder.proofs.registers_only.Tie as tie
 

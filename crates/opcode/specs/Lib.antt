@@ -1,0 +1,4 @@
+pub mod Table
+pub mod Families
+pub mod Decode
+pub mod Found
