@@ -1,7 +1,7 @@
 -- Words and instructions, there and back: every word that exists is the word of its instruction, and every instruction with operands in
 -- range is what its word decodes to. Generic laws over rows first; then a line for each family. Assumes nothing.
 use mathlib.Core.Path.{_≡_, refl, sym, ap, _∙_, subst}
-use Prim.Native.Nat.{ℕ, zero, suc, _+_, _*_, _/_, _%_, _^_, _<_}
+use Prim.Native.Nat.{ℕ, zero, suc, _+_, _^_, _<_}
 use native.Mathlib.Nat.{mod-eq-of-lt}
 use native.Mathlib.Omega.{arith}
 use mathlib.Core.Bool.{Bool, true, false, cond, _&&_}
@@ -9,7 +9,7 @@ use mathlib.Core.List.{List, [], _∷_, _++_}
 use lib.Dec.{T, eqb, ltb, eqb→eq, ltb→lt}
 use lib.Pow.{pow-pos}
 use borrow.Author.Tests.{eqb-true, eq-eqb}
-use Rattle.isa.specs.Format.{Part, opcode, rd, rj, rk, imm, hint, lsb, msb, same, Format, places, filled, wordOf, values, width}
+use Rattle.isa.specs.Format.{Part, opcode, rd, rj, rk, imm, hint, lsb, msb, places, filled, wordOf, values, width}
 use Rattle.opcode.specs.Table.{Row}
 use Rattle.isa.specs.Operands.{operands, fieldOperands, hintOperands}
 use Rattle.opcode.specs.Families.{Family, Entry, entry, entries, allEntries, families, table, alu, product, division, shift, shiftImmediate, immediate, upper, alsl, bytepick, unary, field, branch, zeroBranch, jump, load, loadIndexed, store, storeIndexed, pointer, preload, barrier, trap, assert, config}
@@ -18,11 +18,11 @@ use Rattle.roundtrip.specs.Encode.{ofOperands, ofFieldOperands, ofHintOp
 use Rattle.isa.specs.declared.Instruction.{Instruction}
 use Rattle.isa.specs.declared.Instruction.the-variants as instruction
 use Rattle.isa.specs.declared.Decoded.{Decoded}
-use Rattle.isa.specs.declared.Decoded.the-variants.{Known, Unknown}
-use Rattle.isa.proofs.Places.{Agree, joins, agree, read-back, gather-lt, and-l, and-r}
+use Rattle.isa.specs.declared.Decoded.the-variants.{Known}
+use Rattle.isa.proofs.Places.{joins, agree, read-back, gather-lt, and-l, and-r}
 use Rattle.opcode.proofs.Narrow.{every, both-l}
 use Rattle.roundtrip.proofs.Words.{word-lt, agreed, laid}
-use Rattle.roundtrip.proofs.Apart.{Has, here, there, every-of, joined, apart, rows-apart, found}
+use Rattle.roundtrip.proofs.Apart.{Has, here, there, every-of, joined, rows-apart, found}
 use Rattle.roundtrip.proofs.Enumerated as enum
 use Rattle.roundtrip.proofs.Enumerated.{In, enumerated}
 use Rattle.alu.proofs.Alu as Alu

@@ -2,15 +2,15 @@
 -- Assumes nothing.
 use mathlib.Core.Path.{_≡_, refl, sym, ap, _∙_, subst}
 use Prim.Native.Nat.{ℕ, zero, suc, _+_, _*_, _/_, _%_, _^_, _<_}
-use native.Mathlib.Nat.{mod-lt, mod-eq-of-lt}
+use native.Mathlib.Nat.{mod-lt}
 use native.Mathlib.Omega.{arith}
 use mathlib.Core.Bool.{Bool, true, false, cond}
 use mathlib.Core.List.{List, [], _∷_}
 use lib.Arith.{digits-lt}
-use lib.Dec.{T, eqb, lit<}
+use lib.Dec.{lit<}
 use lib.Pow.{pow-pos, pow-add, high, low, mod-pow-add, mod-mod-pow, field}
 use borrow.Author.Tests.{eqb-true, eq-eqb}
-use Rattle.isa.specs.Format.{Part, opcode, rd, rj, rk, imm, hint, lsb, msb, number, same, Piece, Place, filled, places, wordOf}
+use Rattle.isa.specs.Format.{Part, opcode, rd, rj, rk, imm, hint, lsb, msb, number, same, Piece, filled, places, wordOf}
 use Rattle.isa.proofs.Places.{Agree}
 
 -- parts are told apart by their numbers
