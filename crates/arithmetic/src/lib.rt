@@ -56,29 +56,23 @@ fn only_if(exists: bool, i: Instruction) -> Decoded
     }
 }
 
-// ASRT: bits 4:0 are zero.
-fn assert(word: u32, op: Assert) -> Decoded
-    ensures { λ r. ⌜ r ≡ assertion word op ⌝ }
+// ASRT, if bits 4:0 are zero.
+fn assert(zero: bool, op: Assert, word: u32) -> Decoded
+    ensures { λ r. ⌜ r ≡ assertion zero op word ⌝ }
 {
-    only_if(
-        word % 0x20 == 0,
-        Instruction::Assert(op, isa::of_asrt(word)),
-    )
+    only_if(zero, Instruction::Assert(op, isa::of_asrt(word)))
 }
 
-// A shift of a word by an immediate: bit 15 is set.
-fn word_shift(word: u32, op: Shift) -> Decoded
-    ensures { λ r. ⌜ r ≡ wordShift word op ⌝ }
+// A shift of a word by an immediate, if bit 15 is set.
+fn word_shift(set: bool, op: Shift, word: u32) -> Decoded
+    ensures { λ r. ⌜ r ≡ wordShift set op word ⌝ }
 {
-    only_if(
-        word / 0x8000 % 2 == 1,
-        Instruction::ShiftImmediate(op, isa::of_r2i5(word)),
-    )
+    only_if(set, Instruction::ShiftImmediate(op, isa::of_r2i5(word)))
 }
 
 // A bit field of a double word: msb is not below lsb.
-fn double_field(word: u32, op: Field) -> Decoded
-    ensures { λ r. ⌜ r ≡ doubleField word op ⌝ }
+fn double_field(op: Field, word: u32) -> Decoded
+    ensures { λ r. ⌜ r ≡ doubleField op word ⌝ }
 {
     only_if(
         isa::field_d_exists(word),
@@ -106,8 +100,8 @@ fn short_ones(word: u32) -> Decoded
 {
     match word / 0x8000 {
         0x0 => two(opcode::unaries(word), word),
-        0x2 => assert(word, Assert::AsrtleD),
-        0x3 => assert(word, Assert::AsrtgtD),
+        0x2 => assert(word % 0x20 == 0, Assert::AsrtleD, word),
+        0x3 => assert(word % 0x20 == 0, Assert::AsrtgtD, word),
         _ => Decoded::Unknown,
     }
 }
@@ -174,10 +168,10 @@ fn shift_immediates(word: u32) -> Decoded
     ensures { λ r. ⌜ r ≡ decodeOf word ⌝ }
 {
     match word / 0x1_0000 {
-        0x40 => word_shift(word, Shift::SllW),
-        0x44 => word_shift(word, Shift::SrlW),
-        0x48 => word_shift(word, Shift::SraW),
-        0x4c => word_shift(word, Shift::RotrW),
+        0x40 => word_shift(word / 0x8000 % 2 == 1, Shift::SllW, word),
+        0x44 => word_shift(word / 0x8000 % 2 == 1, Shift::SrlW, word),
+        0x48 => word_shift(word / 0x8000 % 2 == 1, Shift::SraW, word),
+        0x4c => word_shift(word / 0x8000 % 2 == 1, Shift::RotrW, word),
         0x41 => Decoded::Known(Instruction::ShiftImmediate(Shift::SllD, isa::of_r2i6(word))),
         0x45 => Decoded::Known(Instruction::ShiftImmediate(Shift::SrlD, isa::of_r2i6(word))),
         0x49 => Decoded::Known(Instruction::ShiftImmediate(Shift::SraD, isa::of_r2i6(word))),
@@ -228,8 +222,8 @@ pub fn zeros(word: u32) -> Decoded
         0xd => Decoded::Known(Instruction::Immediate(Immediate::Andi, isa::of_r2i12(word))),
         0xe => Decoded::Known(Instruction::Immediate(Immediate::Ori, isa::of_r2i12(word))),
         0xf => Decoded::Known(Instruction::Immediate(Immediate::Xori, isa::of_r2i12(word))),
-        0x2 => double_field(word, Field::BstrinsD),
-        0x3 => double_field(word, Field::BstrpickD),
+        0x2 => double_field(Field::BstrinsD, word),
+        0x3 => double_field(Field::BstrpickD, word),
         _ => Decoded::Unknown,
     }
 }

@@ -39,12 +39,12 @@ fn at_index(found: Access, word: u32) -> Decoded
     }
 }
 
-// Two operations that differ in bit 25.
-fn uppers(word: u32, clear: Upper, set: Upper) -> Decoded
-    ensures { λ r. ⌜ r ≡ upperPair word clear set ⌝ }
+// Two operations that differ in one bit of the opcode.
+fn uppers(bit: bool, set: Upper, clear: Upper, word: u32) -> Decoded
+    ensures { λ r. ⌜ r ≡ upperPair bit set clear word ⌝ }
 {
     let o = isa::of_r1i20(word);
-    if word / 0x200_0000 % 2 == 1 {
+    if bit {
         Decoded::Known(Instruction::Upper(set, o))
     } else {
         Decoded::Known(Instruction::Upper(clear, o))
@@ -95,12 +95,13 @@ fn registers_only(word: u32) -> Decoded
 pub fn decode(word: u32) -> Decoded
     ensures { λ r. ⌜ Decodes word r ⌝ }
 {
+    let bit = word / 0x200_0000 % 2 == 1;
     match word / 0x400_0000 {
         0x0 => arithmetic::zeros(word),
         0x4 => Decoded::Known(Instruction::Immediate(Immediate::Addu16iD, isa::of_r2i16(word))),
-        0x5 => uppers(word, Upper::Lu12iW, Upper::Lu32iD),
-        0x6 => uppers(word, Upper::Pcaddi, Upper::Pcalau12i),
-        0x7 => uppers(word, Upper::Pcaddu12i, Upper::Pcaddu18i),
+        0x5 => uppers(bit, Upper::Lu32iD, Upper::Lu12iW, word),
+        0x6 => uppers(bit, Upper::Pcalau12i, Upper::Pcaddi, word),
+        0x7 => uppers(bit, Upper::Pcaddu18i, Upper::Pcaddu12i, word),
         0x16 => Decoded::Known(Instruction::Branch(Branch::Beq, isa::of_r2i16(word))),
         0x17 => Decoded::Known(Instruction::Branch(Branch::Bne, isa::of_r2i16(word))),
         0x18 => Decoded::Known(Instruction::Branch(Branch::Blt, isa::of_r2i16(word))),

@@ -1,6 +1,5 @@
 -- `decoder::uppers` meets its contract: by the bit. Assumes nothing.
 use borrow.Author.Needs.{needs}
-use borrow.Author.Tests.{eq-eqb, ne-eqb}
 use Rattle.decoder.proofs.uppers.Statement.{statement}
 use Rattle.decoder.proofs.uppers.Tie as tie
 
@@ -9,5 +8,5 @@ uppers-spec =
     tie.close
     (tie.spec
     (λ c κs. search needs)
-    (λ c. rw (c .before .of-r1i20 .ensures, eq-eqb _ 1 (c .if1 .taken)))
-    (λ c. rw (c .before .of-r1i20 .ensures, ne-eqb _ 1 (c .if1 .left))))
+    (λ c. rw (c .before .of-r1i20 .ensures, c .if1 .taken))
+    (λ c. rw (c .before .of-r1i20 .ensures, c .if1 .left)))
