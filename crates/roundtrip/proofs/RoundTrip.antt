@@ -188,105 +188,102 @@ hinted-parts r t u w e hint = refl
 hinted-parts r t u w e lsb = absent r t w lsb (and-l (eqb (width (r .format) lsb) 0) _ (and-r (eqb (width (r .format) rd) 0) _ u))
 hinted-parts r t u w e msb = absent r t w msb (and-l (eqb (width (r .format) msb) 0) _ (and-r (eqb (width (r .format) lsb) 0) _ (and-r (eqb (width (r .format) rd) 0) _ u)))
 
-plain-keeps : (F : Family) → ((op : F .Op) → In op (F .ops)) → T (lack F (hint ∷ lsb ∷ msb ∷ []) (F .ops)) → ((op : F .Op) (x : Part → ℕ) → rowOf (F .make op x) ≡ F .row op)
-    → ((op : F .Op) (x : Part → ℕ) (q : Part) → partsOf (F .make op x) q ≡ withCode (F .row op .code) (ofOperands (operands x)) q) → Kept F
-plain-keeps F m t r p =
-    record {
-      member = m;
-      rows = r;
-      parts = λ op u w e q. p op (values (F .row op .format) w) q ∙ plain-parts (F .row op) u (lack-of F (hint ∷ lsb ∷ msb ∷ []) (m op) t) w e q;
-    }
+-- a kind of operands: the parts that it lacks, and that its other parts are the word's
+record Kind : Type 0 where
+  without : List Part
+  back : (Part → ℕ) → Part → ℕ
+  whole : (r : Row) → T (sound r) → T (lacks without r) → (w : ℕ) → has r w ≡ true → (q : Part) → withCode (r .code) (back (values (r .format) w)) q ≡ values (r .format) w q
 
-field-keeps : (F : Family) → ((op : F .Op) → In op (F .ops)) → T (lack F (rk ∷ imm ∷ hint ∷ []) (F .ops)) → ((op : F .Op) (x : Part → ℕ) → rowOf (F .make op x) ≡ F .row op)
-    → ((op : F .Op) (x : Part → ℕ) (q : Part) → partsOf (F .make op x) q ≡ withCode (F .row op .code) (ofFieldOperands (fieldOperands x)) q) → Kept F
-field-keeps F m t r p =
-    record {
-      member = m;
-      rows = r;
-      parts = λ op u w e q. p op (values (F .row op .format) w) q ∙ field-parts (F .row op) u (lack-of F (rk ∷ imm ∷ hint ∷ []) (m op) t) w e q;
-    }
+abbrev plain : Kind
+plain = record { without = hint ∷ lsb ∷ msb ∷ []; back = λ x. ofOperands (operands x); whole = plain-parts }
 
-hinted-keeps : (F : Family) → ((op : F .Op) → In op (F .ops)) → T (lack F (rd ∷ lsb ∷ msb ∷ []) (F .ops)) → ((op : F .Op) (x : Part → ℕ) → rowOf (F .make op x) ≡ F .row op)
-    → ((op : F .Op) (x : Part → ℕ) (q : Part) → partsOf (F .make op x) q ≡ withCode (F .row op .code) (ofHintOperands (hintOperands x)) q) → Kept F
-hinted-keeps F m t r p =
+abbrev fielded : Kind
+fielded = record { without = rk ∷ imm ∷ hint ∷ []; back = λ x. ofFieldOperands (fieldOperands x); whole = field-parts }
+
+abbrev hinted : Kind
+hinted = record { without = rd ∷ lsb ∷ msb ∷ []; back = λ x. ofHintOperands (hintOperands x); whole = hinted-parts }
+
+keeps : (K : Kind) (F : Family) → ((op : F .Op) → In op (F .ops)) → T (lack F (K .without) (F .ops)) → ((op : F .Op) (x : Part → ℕ) → rowOf (F .make op x) ≡ F .row op)
+    → ((op : F .Op) (x : Part → ℕ) (q : Part) → partsOf (F .make op x) q ≡ withCode (F .row op .code) (K .back x) q) → Kept F
+keeps K F m t r p =
     record {
       member = m;
       rows = r;
-      parts = λ op u w e q. p op (values (F .row op .format) w) q ∙ hinted-parts (F .row op) u (lack-of F (rd ∷ lsb ∷ msb ∷ []) (m op) t) w e q;
+      parts = λ op u w e q. p op (values (F .row op .format) w) q ∙ K .whole (F .row op) u (lack-of F (K .without) (m op) t) w e q;
     }
 
 -- a line for each family
 alu-kept : Kept alu
-alu-kept = plain-keeps alu (enumerated Alu.enum (alu .ops) tt tt) tt (λ op x. refl) (λ op x q. refl)
+alu-kept = keeps plain alu (enumerated Alu.enum (alu .ops) tt tt) tt (λ op x. refl) (λ op x q. refl)
 
 product-kept : Kept product
-product-kept = plain-keeps product (enumerated Product.enum (product .ops) tt tt) tt (λ op x. refl) (λ op x q. refl)
+product-kept = keeps plain product (enumerated Product.enum (product .ops) tt tt) tt (λ op x. refl) (λ op x q. refl)
 
 division-kept : Kept division
-division-kept = plain-keeps division (enumerated Division.enum (division .ops) tt tt) tt (λ op x. refl) (λ op x q. refl)
+division-kept = keeps plain division (enumerated Division.enum (division .ops) tt tt) tt (λ op x. refl) (λ op x q. refl)
 
 shift-kept : Kept shift
-shift-kept = plain-keeps shift (enumerated Shift.enum (shift .ops) tt tt) tt (λ op x. refl) (λ op x q. refl)
+shift-kept = keeps plain shift (enumerated Shift.enum (shift .ops) tt tt) tt (λ op x. refl) (λ op x q. refl)
 
 shiftImmediate-kept : Kept shiftImmediate
-shiftImmediate-kept = plain-keeps shiftImmediate (enumerated Shift.enum (shiftImmediate .ops) tt tt) tt (λ op x. refl) (λ op x q. refl)
+shiftImmediate-kept = keeps plain shiftImmediate (enumerated Shift.enum (shiftImmediate .ops) tt tt) tt (λ op x. refl) (λ op x q. refl)
 
 immediate-kept : Kept immediate
-immediate-kept = plain-keeps immediate (enumerated Immediate.enum (immediate .ops) tt tt) tt (λ op x. refl) (λ op x q. refl)
+immediate-kept = keeps plain immediate (enumerated Immediate.enum (immediate .ops) tt tt) tt (λ op x. refl) (λ op x q. refl)
 
 upper-kept : Kept upper
-upper-kept = plain-keeps upper (enumerated Upper.enum (upper .ops) tt tt) tt (λ op x. refl) (λ op x q. refl)
+upper-kept = keeps plain upper (enumerated Upper.enum (upper .ops) tt tt) tt (λ op x. refl) (λ op x q. refl)
 
 alsl-kept : Kept alsl
-alsl-kept = plain-keeps alsl (enumerated Alsl.enum (alsl .ops) tt tt) tt (λ op x. refl) (λ op x q. refl)
+alsl-kept = keeps plain alsl (enumerated Alsl.enum (alsl .ops) tt tt) tt (λ op x. refl) (λ op x q. refl)
 
 bytepick-kept : Kept bytepick
-bytepick-kept = plain-keeps bytepick (enumerated Bytepick.enum (bytepick .ops) tt tt) tt (λ op x. refl) (λ op x q. refl)
+bytepick-kept = keeps plain bytepick (enumerated Bytepick.enum (bytepick .ops) tt tt) tt (λ op x. refl) (λ op x q. refl)
 
 unary-kept : Kept unary
-unary-kept = plain-keeps unary (enumerated Unary.enum (unary .ops) tt tt) tt (λ op x. refl) (λ op x q. refl)
+unary-kept = keeps plain unary (enumerated Unary.enum (unary .ops) tt tt) tt (λ op x. refl) (λ op x q. refl)
 
 field-kept : Kept field
-field-kept = field-keeps field (enumerated Field.enum (field .ops) tt tt) tt (λ op x. refl) (λ op x q. refl)
+field-kept = keeps fielded field (enumerated Field.enum (field .ops) tt tt) tt (λ op x. refl) (λ op x q. refl)
 
 branch-kept : Kept branch
-branch-kept = plain-keeps branch (enumerated Branch.enum (branch .ops) tt tt) tt (λ op x. refl) (λ op x q. refl)
+branch-kept = keeps plain branch (enumerated Branch.enum (branch .ops) tt tt) tt (λ op x. refl) (λ op x q. refl)
 
 zeroBranch-kept : Kept zeroBranch
-zeroBranch-kept = plain-keeps zeroBranch (enumerated ZeroBranch.enum (zeroBranch .ops) tt tt) tt (λ op x. refl) (λ op x q. refl)
+zeroBranch-kept = keeps plain zeroBranch (enumerated ZeroBranch.enum (zeroBranch .ops) tt tt) tt (λ op x. refl) (λ op x q. refl)
 
 jump-kept : Kept jump
-jump-kept = plain-keeps jump (enumerated Jump.enum (jump .ops) tt tt) tt (λ op x. refl) (λ op x q. refl)
+jump-kept = keeps plain jump (enumerated Jump.enum (jump .ops) tt tt) tt (λ op x. refl) (λ op x q. refl)
 
 load-kept : Kept load
-load-kept = plain-keeps load (enumerated Load.enum (load .ops) tt tt) tt (λ op x. refl) (λ op x q. refl)
+load-kept = keeps plain load (enumerated Load.enum (load .ops) tt tt) tt (λ op x. refl) (λ op x q. refl)
 
 loadIndexed-kept : Kept loadIndexed
-loadIndexed-kept = plain-keeps loadIndexed (enumerated Load.enum (loadIndexed .ops) tt tt) tt (λ op x. refl) (λ op x q. refl)
+loadIndexed-kept = keeps plain loadIndexed (enumerated Load.enum (loadIndexed .ops) tt tt) tt (λ op x. refl) (λ op x q. refl)
 
 store-kept : Kept store
-store-kept = plain-keeps store (enumerated Store.enum (store .ops) tt tt) tt (λ op x. refl) (λ op x q. refl)
+store-kept = keeps plain store (enumerated Store.enum (store .ops) tt tt) tt (λ op x. refl) (λ op x q. refl)
 
 storeIndexed-kept : Kept storeIndexed
-storeIndexed-kept = plain-keeps storeIndexed (enumerated Store.enum (storeIndexed .ops) tt tt) tt (λ op x. refl) (λ op x q. refl)
+storeIndexed-kept = keeps plain storeIndexed (enumerated Store.enum (storeIndexed .ops) tt tt) tt (λ op x. refl) (λ op x q. refl)
 
 pointer-kept : Kept pointer
-pointer-kept = plain-keeps pointer (enumerated Pointer.enum (pointer .ops) tt tt) tt (λ op x. refl) (λ op x q. refl)
+pointer-kept = keeps plain pointer (enumerated Pointer.enum (pointer .ops) tt tt) tt (λ op x. refl) (λ op x q. refl)
 
 preload-kept : Kept preload
-preload-kept = hinted-keeps preload (enumerated Preload.enum (preload .ops) tt tt) tt (λ op x. refl) (λ op x q. refl)
+preload-kept = keeps hinted preload (enumerated Preload.enum (preload .ops) tt tt) tt (λ op x. refl) (λ op x q. refl)
 
 barrier-kept : Kept barrier
-barrier-kept = plain-keeps barrier (enumerated Barrier.enum (barrier .ops) tt tt) tt (λ op x. refl) (λ op x q. refl)
+barrier-kept = keeps plain barrier (enumerated Barrier.enum (barrier .ops) tt tt) tt (λ op x. refl) (λ op x q. refl)
 
 trap-kept : Kept trap
-trap-kept = plain-keeps trap (enumerated Trap.enum (trap .ops) tt tt) tt (λ op x. refl) (λ op x q. refl)
+trap-kept = keeps plain trap (enumerated Trap.enum (trap .ops) tt tt) tt (λ op x. refl) (λ op x q. refl)
 
 assert-kept : Kept assert
-assert-kept = plain-keeps assert (enumerated Assert.enum (assert .ops) tt tt) tt (λ op x. refl) (λ op x q. refl)
+assert-kept = keeps plain assert (enumerated Assert.enum (assert .ops) tt tt) tt (λ op x. refl) (λ op x q. refl)
 
 config-kept : Kept config
-config-kept = plain-keeps config (enumerated Config.enum (config .ops) tt tt) tt (λ op x. refl) (λ op x q. refl)
+config-kept = keeps plain config (enumerated Config.enum (config .ops) tt tt) tt (λ op x. refl) (λ op x q. refl)
 
 -- ---- a word that exists is its instruction's word
 
