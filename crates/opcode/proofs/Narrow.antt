@@ -192,20 +192,13 @@ module _ (w : ℕ) (h : w < 2 ^ 32) where
       (eq-eqb (values (e .row .format) w opcode) (e .row .code) (has-code n k q (e .row) (codePlaces (e .row)) t))
   leaf-in n k q (e ∷ f ∷ es) t = absurd t
 
--- a last bit that is not the one is the other
-pub bit-one : (x : ℕ) → (x % 2 ≡ 0 → ⊥) → x % 2 ≡ 1
-bit-one x f = by (leb 1 (x % 2)) refl
+-- a last bit is 0 or 1
+pub last-bit : (x : ℕ) {X : Type 0} → (x % 2 ≡ 0 → X) → (x % 2 ≡ 1 → X) → X
+last-bit x {X} f g = by (leb 1 (x % 2)) refl
   where
-    by : (t : Bool) → leb 1 (x % 2) ≡ t → x % 2 ≡ 1
-    by true e = let l : 1 ≤ x % 2 = leb-true 1 (x % 2) e in omega arith
-    by false e = let l : x % 2 < 1 = leb-false 1 (x % 2) e in absurd (f (omega arith))
-
-bit-zero : (x : ℕ) → (x % 2 ≡ 1 → ⊥) → x % 2 ≡ 0
-bit-zero x f = by (leb 1 (x % 2)) refl
-  where
-    by : (t : Bool) → leb 1 (x % 2) ≡ t → x % 2 ≡ 0
-    by true e = let l : 1 ≤ x % 2 = leb-true 1 (x % 2) e in absurd (f (omega arith))
-    by false e = let l : x % 2 < 1 = leb-false 1 (x % 2) e in omega arith
+    by : (t : Bool) → leb 1 (x % 2) ≡ t → X
+    by true e = let l : 1 ≤ x % 2 = leb-true 1 (x % 2) e in g (omega arith)
+    by false e = let l : x % 2 < 1 = leb-false 1 (x % 2) e in f (omega arith)
 
 -- a number by its half and its last bit
 halved : (x b : ℕ) {k : ℕ} → x / 2 ≡ k → x % 2 ≡ b → x ≡ k * 2 + b
@@ -259,4 +252,4 @@ module _ {w : ℕ} (f : Fits w32 w) where
 
       by : (x : Bool) → eqb (w / 2 ^ n % 2) 1 ≡ x → cond x (leafOf (under n (k * 2 + 1) table) w) (leafOf (under n (k * 2) table) w) ≡ decodeOf w
       by true e = leaf n (halved (w / 2 ^ n) 1 half (eqb-true _ 1 e)) s
-      by false e = leaf n (halved (w / 2 ^ n) 0 half (bit-zero (w / 2 ^ n) (eqb-false _ 1 e)) ∙ add-zero (k * 2)) t
+      by false e = leaf n (halved (w / 2 ^ n) 0 half (last-bit (w / 2 ^ n) (λ z. z) (λ o. absurd (eqb-false _ 1 e o))) ∙ add-zero (k * 2)) t

@@ -2,7 +2,7 @@
 use mathlib.Core.Path.{refl, sym, _∙_}
 use borrow.Author.Needs.{needs}
 use Rattle.opcode.specs.Families.{table}
-use Rattle.opcode.proofs.Narrow.{narrow, bit-one}
+use Rattle.opcode.proofs.Narrow.{narrow, last-bit}
 use Rattle.arithmetic.proofs.word_fields.Statement.{statement}
 use Rattle.arithmetic.proofs.word_fields.Tie as tie
 
@@ -22,4 +22,4 @@ word-fields-spec =
     (λ c.
     let s = c .before .before .before .before in
     rw (c .only-if2 .ensures, c .before .before .of-field-w .ensures, c .before .before .before .field-w-exists .ensures)
-    (sym (narrow (s .fits .word) 21 (s .pre) ∙ rw (s .pre, bit-one _ (c .before .if1 .left)) refl))))
+    (sym (narrow (s .fits .word) 21 (s .pre) ∙ rw (s .pre, last-bit _ (λ z. absurd (c .before .if1 .left z)) (λ o. o)) refl))))
