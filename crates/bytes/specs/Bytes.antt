@@ -1,0 +1,14 @@
+-- Little-endian numbers of n bytes in a list of bytes, for every n (01: "All data is little-endian").
+use Prim.Native.Nat.{ℕ, zero, suc, _+_, _*_, _/_, _%_}
+use mathlib.Core.List.{List}
+use lib.ListN.{getD, set}
+
+-- the number whose n bytes stand from `at` on, the lowest first
+unfoldable pub getLE : ℕ → ℕ → List ℕ → ℕ
+getLE zero at s = 0
+getLE (suc n) at s = getD s at 0 + 256 * getLE n (suc at) s
+
+-- s with the n lowest bytes of v from `at` on, the lowest first
+unfoldable pub putLE : ℕ → ℕ → ℕ → List ℕ → List ℕ
+putLE zero at v s = s
+putLE (suc n) at v s = putLE n (suc at) (v / 256) (set s at (v % 256))

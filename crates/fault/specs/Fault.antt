@@ -1,0 +1,41 @@
+-- 01, "Stops": Ecode, subcode and the carried value of each fault.
+use Prim.Native.Nat.{ℕ}
+use mathlib.Core.Path.{_≡_, refl}
+use mathlib.Core.Bool.{Bool, true, false, _&&_, not}
+use mathlib.Core.List.{List, [], _∷_}
+use lib.Dec.{eqb}
+use Rattle.place.specs.declared.GuestAddr.{GuestAddr}
+use Rattle.fault.specs.declared.Fault.{Fault}
+use Rattle.fault.specs.declared.Fault.the-variants.{Adef, Adem, Ale, Bce, Syscall, Break, Ine}
+use Rattle.fault.specs.declared.Telling.{Telling}
+
+abbrev told : ℕ → ℕ → ℕ → Telling
+told e s v = record { ecode = e; subcode = s; carried = v }
+
+--                     Ecode  sub  carries
+abbrev pub tellingOf : Fault → Telling
+tellingOf (Adef pc)    = told 8  0 (pc .0)
+tellingOf (Adem a)     = told 8  1 (a .0)
+tellingOf (Ale a)      = told 9  0 (a .0)
+tellingOf Bce          = told 10 0 0
+tellingOf (Syscall c)  = told 11 0 c
+tellingOf (Break c)    = told 12 0 c
+tellingOf (Ine w)      = told 13 0 w
+
+-- One fault of each kind. Kinds are told apart by Ecode and subcode alone: no two of the list have both the same.
+abbrev pub kinds : List Fault
+kinds = Adef (record { 0 = 0 }) ∷ Adem (record { 0 = 0 }) ∷ Ale (record { 0 = 0 }) ∷ Bce ∷ Syscall 0 ∷ Break 0 ∷ Ine 0 ∷ []
+
+abbrev pub sameKind : Telling → Telling → Bool
+sameKind s t = eqb (s .ecode) (t .ecode) && eqb (s .subcode) (t .subcode)
+
+abbrev pub unlike : Fault → List Fault → Bool
+unlike f [] = true
+unlike f (g ∷ gs) = not (sameKind (tellingOf f) (tellingOf g)) && unlike f gs
+
+abbrev pub allUnlike : List Fault → Bool
+allUnlike [] = true
+allUnlike (f ∷ fs) = unlike f fs && allUnlike fs
+
+pub kinds-differ : allUnlike kinds ≡ true
+kinds-differ = refl
