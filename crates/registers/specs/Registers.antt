@@ -6,9 +6,9 @@ use lib.Dec.{eqb}
 use lib.ListN.{getD, set}
 
 -- GR[i], where i is a field of five bits
-abbrev pub reg : List ℕ → ℕ → ℕ
+unfoldable pub reg : List ℕ → ℕ → ℕ
 reg regs i = getD regs (i % 32) 0
 
 -- GR[i] = v. "Register 0 is always zero; a write to it is dropped"
-abbrev pub written : List ℕ → ℕ → ℕ → List ℕ
+unfoldable pub written : List ℕ → ℕ → ℕ → List ℕ
 written regs i v = cond (eqb (i % 32) 0) regs (set regs (i % 32) v)

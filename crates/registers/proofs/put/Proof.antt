@@ -2,10 +2,12 @@
 use mathlib.Core.Path.{refl}
 use borrow.Author.Needs.{needs}
 use borrow.Author.Tests.{eq-eqb, ne-eqb}
+use Rattle.registers.specs.Registers.{written}
 use Rattle.registers.proofs.put.Statement.{statement}
 use Rattle.registers.proofs.put.Tie as tie
 
 pub put-spec : {M : Type 1} → statement M
+unfolding written
 put-spec =
     tie.close
     (tie.spec
