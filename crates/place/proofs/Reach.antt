@@ -3,7 +3,7 @@ use mathlib.Core.Path.{_≡_, refl, sym, ap, subst, _∙_}
 use mathlib.Core.Bool.{Bool, true, false, cond, _&&_}
 use Prim.Native.Nat.{ℕ, _+_, _-_, _%_, _^_, _≤_, _<_}
 use native.Mathlib.Omega.{arith}
-use lib.Dec.{T, leb}
+use lib.Dec.{T, eqb, leb}
 use borrow.Author.Tests.{leb-true, leb-false, le-leb, lt-leb}
 use Rattle.word.specs.Word.{subD}
 use Rattle.word.proofs.Signs.{cut-sub}
@@ -59,3 +59,35 @@ within-true base len a n e = go (leb base a) (leb (a + n) (base + len)) refl ref
     go true true f g h = (leb-true _ _ f, leb-true _ _ g)
     go true false f g h = absurd (subst T (sym h) tt)
     go false q f g h = absurd (subst T (sym h) tt)
+
+-- what the window check finds lies in the window
+pub located-inside : (w : Window) (a : GuestAddr) (k : Width) (o : ArenaOffset) → locateOf w a k ≡ Located.At o
+    → (w .start .0 ≤ o .0) × (o .0 + bytesOf k ≤ w .start .0 + w .len)
+unfolding locateOf
+located-inside w a k o e = go (withinOf windowBase (w .len) (a .0) (bytesOf k)) refl e
+  where
+    go : (t : Bool) → withinOf windowBase (w .len) (a .0) (bytesOf k) ≡ t
+        → cond t (Located.At (record { 0 = w .start .0 + (a .0 - windowBase) })) Located.Outside ≡ Located.At o
+        → (w .start .0 ≤ o .0) × (o .0 + bytesOf k ≤ w .start .0 + w .len)
+    go true q f =
+        let i = within-true windowBase (w .len) (a .0) (bytesOf k) q in
+        let g : _≡_ {A = ArenaOffset} (record { 0 = w .start .0 + (a .0 - windowBase) }) o = cc in
+        let h : w .start .0 + (a .0 - windowBase) ≡ o .0 = ap (λ (x : ArenaOffset). x .0) g in
+        omega arith
+    go false q f = let z : _≡_ {A = ℕ} 0 1 = cc in omega arith
+
+-- what is fetched lies in the code
+pub fetched-inside : (len : ℕ) (pc : GuestAddr) (o : CodeOffset) → fetchPlaceOf len pc ≡ FetchPlace.At o → o .0 + 4 ≤ len
+unfolding fetchPlaceOf
+fetched-inside len pc o e = go (eqb (pc .0 % 4) 0) (withinOf codeBase len (pc .0) 4) refl e
+  where
+    go : (s t : Bool) → withinOf codeBase len (pc .0) 4 ≡ t
+        → cond (s && t) (FetchPlace.At (record { 0 = pc .0 - codeBase })) FetchPlace.Outside ≡ FetchPlace.At o
+        → o .0 + 4 ≤ len
+    go true true q f =
+        let i = within-true codeBase len (pc .0) 4 q in
+        let g : _≡_ {A = CodeOffset} (record { 0 = pc .0 - codeBase }) o = cc in
+        let h : pc .0 - codeBase ≡ o .0 = ap (λ (x : CodeOffset). x .0) g in
+        omega arith
+    go true false q f = let z : _≡_ {A = ℕ} 0 1 = cc in omega arith
+    go false t q f = let z : _≡_ {A = ℕ} 0 1 = cc in omega arith
