@@ -1,0 +1,144 @@
+-- What is raised before an instruction executes: INE where there is no such instruction, ADEF where there is no word, and neither
+-- by an instruction that exists.
+use mathlib.Core.Path.{_≡_, refl, sym, ap, subst, _∙_}
+use mathlib.Core.Bool.{Bool, true, false, cond, _&&_}
+use mathlib.Core.List.{List}
+use Prim.Native.Nat.{ℕ, _+_, _-_, _%_}
+use native.Mathlib.Omega.{arith}
+use lib.Dec.{eqb}
+use lib.ListN.{length}
+use borrow.Author.Tests.{eq-eqb, le-leb}
+use Rattle.place.specs.declared.GuestAddr.{GuestAddr}
+use Rattle.place.specs.declared.Located.{Located}
+use Rattle.place.specs.declared.Width.{Width}
+use Rattle.place.specs.declared.Window.{Window}
+use Rattle.place.specs.Place.{codeBase, bytesOf, locateOf, fetchPlaceOf}
+use Rattle.isa.specs.declared.Decoded.{Decoded}
+use Rattle.isa.specs.declared.Instruction.{Instruction}
+use Rattle.isa.specs.declared.Pointer.the-variants.{LdptrW, LdptrD, StptrW, StptrD}
+use Rattle.isa.specs.declared.Trap.the-variants.{Syscall, Break}
+use Rattle.opcode.specs.Decode.{decodeOf}
+use Rattle.registers.specs.Registers.{reg}
+use Rattle.fault.specs.declared.Fault.{Fault}
+use Rattle.memory.specs.Memory.{loadWidthOf}
+use Rattle.control.specs.Control.{passesOf}
+use Rattle.operate.specs.Operate.{nextOf}
+use Rattle.effect.specs.declared.Effect.{Effect}
+use Rattle.effect.specs.Effect.{effectOf}
+use Rattle.cpu.specs.declared.Access.{Access}
+use Rattle.cpu.specs.declared.End.{End}
+use Rattle.cpu.specs.declared.Fetched.{Fetched}
+use Rattle.cpu.specs.declared.Stepped.{Stepped}
+use Rattle.cpu.specs.Step.{raised, accessIn, accessOf, loadOf, storeOf, applyOf, fetchedAt, fetchOf, stepDecoded, stepFetched, stepOf}
+use Rattle.stepping.specs.Stepping.{InCode, wordAt, early}
+
+-- inside code the word is fetched
+pub fetched : (code : List ℕ) (pc : GuestAddr) → InCode code pc → fetchOf code pc ≡ Fetched.Word (wordAt code pc)
+unfolding fetchOf fetchPlaceOf
+fetched code pc i =
+    rw (eq-eqb (pc .0 % 4) 0 (i .0), le-leb codeBase (pc .0) (i .1), le-leb (pc .0 + 4) (codeBase + length code) (i .2)) refl
+
+-- there is no such instruction: INE, with the word
+pub ine-raised : (code : List ℕ) (w : Window) (gr : List ℕ) (pc : GuestAddr) (arena : List ℕ)
+    → InCode code pc → decodeOf (wordAt code pc) ≡ Decoded.Unknown → stepOf code w gr pc arena ≡ raised (Fault.Ine (wordAt code pc)) gr pc arena
+unfolding stepOf
+ine-raised code w gr pc arena i u = rw (fetched code pc i, u) refl
+
+-- what an effect, an access and an end raise is not early
+abbrev earlyEffect : Effect → Bool
+earlyEffect (Effect.Raise f) = early f
+earlyEffect (Effect.Write rd v to) = false
+earlyEffect (Effect.Jump to) = false
+earlyEffect (Effect.Load kind rd a) = false
+earlyEffect (Effect.Store k v a) = false
+
+abbrev earlyAccess : Access → Bool
+earlyAccess (Access.At o) = false
+earlyAccess (Access.Denied f) = early f
+
+abbrev earlyEnd : End → Bool
+earlyEnd End.Done = false
+earlyEnd (End.Raised f) = early f
+
+effect-late : (i : Instruction) (gr : List ℕ) (pc : GuestAddr) → earlyEffect (effectOf i gr pc) ≡ false
+unfolding effectOf
+effect-late (Instruction.Alu op o) gr pc = refl
+effect-late (Instruction.Product op o) gr pc = refl
+effect-late (Instruction.Division op o) gr pc = refl
+effect-late (Instruction.Shift op o) gr pc = refl
+effect-late (Instruction.ShiftImmediate op o) gr pc = refl
+effect-late (Instruction.Immediate op o) gr pc = refl
+effect-late (Instruction.Upper op o) gr pc = refl
+effect-late (Instruction.Alsl op o) gr pc = refl
+effect-late (Instruction.Bytepick op o) gr pc = refl
+effect-late (Instruction.Unary op o) gr pc = refl
+effect-late (Instruction.Field op o) gr pc = refl
+effect-late (Instruction.Branch op o) gr pc = refl
+effect-late (Instruction.ZeroBranch op o) gr pc = refl
+effect-late (Instruction.Jump op o) gr pc = refl
+effect-late (Instruction.Load op o) gr pc = refl
+effect-late (Instruction.LoadIndexed op o) gr pc = refl
+effect-late (Instruction.Store op o) gr pc = refl
+effect-late (Instruction.StoreIndexed op o) gr pc = refl
+effect-late (Instruction.Pointer LdptrW o) gr pc = refl
+effect-late (Instruction.Pointer LdptrD o) gr pc = refl
+effect-late (Instruction.Pointer StptrW o) gr pc = refl
+effect-late (Instruction.Pointer StptrD o) gr pc = refl
+effect-late (Instruction.Preload op o) gr pc = refl
+effect-late (Instruction.Barrier op o) gr pc = refl
+effect-late (Instruction.Trap Syscall o) gr pc = refl
+effect-late (Instruction.Trap Break o) gr pc = refl
+effect-late (Instruction.Assert op o) gr pc = go (passesOf op (reg gr (o .rj)) (reg gr (o .rk)))
+  where
+    go : (t : Bool) → earlyEffect (cond t (Effect.Jump (nextOf pc)) (Effect.Raise Fault.Bce)) ≡ false
+    go true = refl
+    go false = refl
+effect-late (Instruction.Config op o) gr pc = refl
+
+access-late : (w : Window) (a : GuestAddr) (k : Width) → earlyAccess (accessOf w a k) ≡ false
+unfolding accessOf
+access-late w a k = go (eqb (a .0 % bytesOf k) 0) (locateOf w a k)
+  where
+    go : (t : Bool) (l : Located) → earlyAccess (cond t (accessIn l a) (Access.Denied (Fault.Ale a))) ≡ false
+    go true (Located.At o) = refl
+    go true Located.Outside = refl
+    go false l = refl
+
+apply-late : (w : Window) (e : Effect) (gr : List ℕ) (pc : GuestAddr) (arena : List ℕ) → earlyEffect e ≡ false
+    → earlyEnd (applyOf w e gr pc arena .0 .end) ≡ false
+unfolding applyOf
+apply-late w (Effect.Write rd v to) gr pc arena l = refl
+apply-late w (Effect.Jump to) gr pc arena l = refl
+apply-late w (Effect.Load kind rd a) gr pc arena l = go (accessOf w a (loadWidthOf kind)) (access-late w a (loadWidthOf kind))
+  where
+    go : (x : Access) → earlyAccess x ≡ false → earlyEnd (loadOf x kind rd gr pc arena .0 .end) ≡ false
+    go (Access.At o) h = refl
+    go (Access.Denied f) h = h
+apply-late w (Effect.Store k v a) gr pc arena l = go (accessOf w a k) (access-late w a k)
+  where
+    go : (x : Access) → earlyAccess x ≡ false → earlyEnd (storeOf x k v gr pc arena .0 .end) ≡ false
+    go (Access.At o) h = refl
+    go (Access.Denied f) h = h
+apply-late w (Effect.Raise f) gr pc arena l = l
+
+-- an instruction that exists raises neither INE nor ADEF
+pub existing-late : (code : List ℕ) (w : Window) (gr : List ℕ) (pc : GuestAddr) (arena : List ℕ) (i : Instruction) (f : Fault)
+    → InCode code pc → decodeOf (wordAt code pc) ≡ Decoded.Known i → stepOf code w gr pc arena .0 .end ≡ End.Raised f → early f ≡ false
+unfolding stepOf
+existing-late code w gr pc arena i f h k e =
+    let q : stepOf code w gr pc arena ≡ applyOf w (effectOf i gr pc) gr pc arena = rw (stepOf, fetched code pc h, k) refl in
+    let r : applyOf w (effectOf i gr pc) gr pc arena .0 .end ≡ End.Raised f = ap (λ (s : Stepped × List ℕ). s .0 .end) (sym q) ∙ e in
+    ap earlyEnd (sym r) ∙ apply-late w (effectOf i gr pc) gr pc arena (effect-late i gr pc)
+
+-- INE only where there is no such instruction, and it carries the word there
+pub ine-only : (code : List ℕ) (w : Window) (gr : List ℕ) (pc : GuestAddr) (arena : List ℕ) (word : ℕ)
+    → InCode code pc → stepOf code w gr pc arena .0 .end ≡ End.Raised (Fault.Ine word)
+    → (decodeOf (wordAt code pc) ≡ Decoded.Unknown) × (word ≡ wordAt code pc)
+ine-only code w gr pc arena word i e = go (decodeOf (wordAt code pc)) refl
+  where
+    go : (d : Decoded) → decodeOf (wordAt code pc) ≡ d → (decodeOf (wordAt code pc) ≡ Decoded.Unknown) × (word ≡ wordAt code pc)
+    go (Decoded.Known n) k = let h = existing-late code w gr pc arena n (Fault.Ine word) i k e in let z : _≡_ {A = ℕ} 0 1 = cc in absurd (omega arith)
+    go Decoded.Unknown k =
+        let q : End.Raised (Fault.Ine (wordAt code pc)) ≡ End.Raised (Fault.Ine word) = ap (λ (s : Stepped × List ℕ). s .0 .end) (sym (ine-raised code w gr pc arena i k)) ∙ e in
+        let h : word ≡ wordAt code pc = cc in
+        (k, h)

@@ -1,0 +1,1 @@
+// What holds of every step. There is no code here: see specs/ and proofs/.
