@@ -58,12 +58,6 @@ pub fn config(op: Config, rj: u64) -> u64
     ensures { λ r. ⌜ r ≡ configOf op rj ⌝ }
 {
     match op {
-        Config::Cpucfg => {
-            if rj == 1 {
-                0x2_f2f2
-            } else {
-                0
-            }
-        }
+        Config::Cpucfg => { if rj == 1 { 0x2_f2f2 } else { 0 } }
     }
 }

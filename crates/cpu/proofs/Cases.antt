@@ -27,8 +27,7 @@ module _ (P : Stepped × List ℕ → Type 0) (w : Window) (gr : List ℕ) (pc :
     (writing : (rd v : ℕ) (to : GuestAddr) → P (done (written gr rd v) to arena))
     (going : (to : GuestAddr) → P (done gr to arena))
     (storing : (k : Width) (o : ArenaOffset) (v : ℕ) → w .start .0 ≤ o .0 → o .0 + bytesOf k ≤ w .start .0 + w .len
-        → P (done gr (nextOf pc) (storedOf k o v arena))) where
-
+    → P (done gr (nextOf pc) (storedOf k o v arena))) where
   of-effect : (e : Effect) → P (applyOf w e gr pc arena)
   unfolding applyOf
   of-effect (Effect.Write rd v to) = writing rd v to

@@ -9,7 +9,7 @@ use Rattle.fault.specs.declared.Fault.{Fault}
 use Rattle.cpu.specs.declared.End.{End}
 use Rattle.cpu.specs.declared.Stepped.{Stepped}
 use Rattle.cpu.specs.declared.Turned.{Turned}
-use Rattle.cpu.specs.Step.{turnedOf, Written, Meets, Steps, stepOf}
+use Rattle.cpu.specs.Step.{turnedOf, LeavesRegisters, Meets, Steps, stepOf}
 use Rattle.cpu.proofs.Raising.{raise-unchanged}
 
 -- a turn that goes on has made the step
@@ -18,7 +18,8 @@ pub goes-on : (s : Stepped × List ℕ) (t : Turned) (to : GuestAddr) (gr arena 
 goes-on s t to gr arena e m = go (s .0 .end) refl (sym e ∙ m .0)
   where
     same : gr ≡ s .0 .regs
-    same = subst (λ (x : Turned). Written x gr (s .0 .regs)) e (m .2)
+    same = subst (λ (x : Turned). LeavesRegisters x gr (s .0 .regs)) e (m .2)
+
     go : (x : End) → s .0 .end ≡ x → Turned.On to ≡ turnedOf x (s .0 .pc) → Steps (record { end = End.Done; regs = gr; pc = to }) arena s
     go End.Done p q = let h : to ≡ s .0 .pc = cc in (rw (h, same, ← p) refl, m .1)
     go (End.Raised f) p q = let z : _≡_ {A = ℕ} 0 1 = cc in absurd (omega arith)
@@ -31,6 +32,7 @@ stops code w gr pc arena t f now after e m = go (stepOf code w gr pc arena .0 .e
   where
     s : Stepped × List ℕ
     s = stepOf code w gr pc arena
+
     go : (x : End) → s .0 .end ≡ x → Turned.Raised f ≡ turnedOf x (s .0 .pc) → Steps (record { end = End.Raised f; regs = gr; pc = pc }) after s
     go End.Done p q = let z : _≡_ {A = ℕ} 0 1 = cc in absurd (omega arith)
     go (End.Raised g) p q =

@@ -89,9 +89,9 @@ abbrev pub turnedOf : End → GuestAddr → Turned
 turnedOf End.Done pc = Turned.On pc
 turnedOf (End.Raised f) pc = Turned.Raised f
 
-abbrev pub Written : Turned → List ℕ → List ℕ → Type 0
-Written (Turned.On pc) gr want = gr ≡ want
-Written (Turned.Raised f) gr want = Unit {0}
+abbrev pub LeavesRegisters : Turned → List ℕ → List ℕ → Type 0
+LeavesRegisters (Turned.On pc) gr want = gr ≡ want
+LeavesRegisters (Turned.Raised f) gr want = Unit {0}
 
 abbrev pub Meets : Turned → List ℕ → List ℕ → Stepped × List ℕ → Type 0
-Meets t gr arena s = (t ≡ turnedOf (s .0 .end) (s .0 .pc)) × (arena ≡ s .1) × Written t gr (s .0 .regs)
+Meets t gr arena s = (t ≡ turnedOf (s .0 .end) (s .0 .pc)) × (arena ≡ s .1) × LeavesRegisters t gr (s .0 .regs)

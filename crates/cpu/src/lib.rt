@@ -66,13 +66,7 @@ fn access_at(window: Window, a: GuestAddr, width: Width) -> Access
 }
 
 // The one place that applies an effect to registers, pc and arena. The window lies in the arena.
-fn apply(
-    arena: &mut [u8],
-    window: Window,
-    e: Effect,
-    regs: &mut [u64; 32],
-    pc: GuestAddr,
-) -> Turned
+fn apply(arena: &mut [u8], window: Window, e: Effect, regs: &mut [u64; 32], pc: GuestAddr) -> Turned
     requires { ⌜ window .start .0 + window .len ≤ length (now arena) ⌝ }
     ensures { λ r. ⌜ Meets r (now (regs .exit)) (now (arena .exit)) (applyOf window e (now (regs .entry)) pc (now (arena .entry))) ⌝ }
 {

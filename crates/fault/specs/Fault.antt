@@ -9,18 +9,18 @@ use Rattle.fault.specs.declared.Fault.{Fault}
 use Rattle.fault.specs.declared.Fault.the-variants.{Adef, Adem, Ale, Bce, Syscall, Break, Ine}
 use Rattle.fault.specs.declared.Telling.{Telling}
 
-abbrev told : ℕ → ℕ → ℕ → Telling
-told e s v = record { ecode = e; subcode = s; carried = v }
+abbrev pub toldOf : ℕ → ℕ → ℕ → Telling
+toldOf e s v = record { ecode = e; subcode = s; carried = v }
 
 --                     Ecode  sub  carries
 abbrev pub tellingOf : Fault → Telling
-tellingOf (Adef pc)    = told 8  0 (pc .0)
-tellingOf (Adem a)     = told 8  1 (a .0)
-tellingOf (Ale a)      = told 9  0 (a .0)
-tellingOf Bce          = told 10 0 0
-tellingOf (Syscall c)  = told 11 0 c
-tellingOf (Break c)    = told 12 0 c
-tellingOf (Ine w)      = told 13 0 w
+tellingOf (Adef pc) = toldOf 8 0 (pc .0)
+tellingOf (Adem a) = toldOf 8 1 (a .0)
+tellingOf (Ale a) = toldOf 9 0 (a .0)
+tellingOf Bce = toldOf 10 0 0
+tellingOf (Syscall c) = toldOf 11 0 c
+tellingOf (Break c) = toldOf 12 0 c
+tellingOf (Ine w) = toldOf 13 0 w
 
 -- One fault of each kind. Kinds are told apart by Ecode and subcode alone: no two of the list have both the same.
 abbrev pub kinds : List Fault

@@ -130,20 +130,22 @@ pub fn next(pc: GuestAddr) -> GuestAddr
 pub fn branch_to(op: Branch, o: Operands, regs: &[u64; 32], pc: GuestAddr) -> GuestAddr
     ensures { λ r. ⌜ r ≡ branchTo op o (now (regs .entry)) pc ⌝ }
 {
+    let after = next(pc);
     if control::taken(op, registers::get(regs, o.rj), registers::get(regs, o.rd)) {
         control::words_on(pc, o.imm, 18)
     } else {
-        next(pc)
+        after
     }
 }
 
 pub fn zero_branch_to(op: ZeroBranch, o: Operands, regs: &[u64; 32], pc: GuestAddr) -> GuestAddr
     ensures { λ r. ⌜ r ≡ zeroBranchTo op o (now (regs .entry)) pc ⌝ }
 {
+    let after = next(pc);
     if control::zero_taken(op, registers::get(regs, o.rj)) {
         control::words_on(pc, o.imm, 23)
     } else {
-        next(pc)
+        after
     }
 }
 

@@ -47,6 +47,7 @@ no-room base len a n ha hb hn h = go (leb base a) refl
   where
     e : subD a base ≡ (a + (2 ^ 64 - base)) % 2 ^ 64
     e = cut-sub 64 a base (omega arith)
+
     go : (t : Bool) → leb base a ≡ t → false ≡ withinOf base len a n
     go true q = rw (q, lt-leb (a + n) (base + len) (let f = e in let g = leb-true base a q in omega arith)) refl
     go false q = rw q refl

@@ -6,8 +6,7 @@ ghost use Rattle.registers.specs.Registers.{reg, written};
 pub fn get(regs: &[u64; 32], i: u8) -> u64
     ensures { λ r. ⌜ r ≡ reg (now (regs .entry)) i ⌝ }
 {
-    let at = i as usize % 32;
-    regs[at]
+    regs[i as usize % 32]
 }
 
 // A write to register 0 is dropped.

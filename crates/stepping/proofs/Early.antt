@@ -30,7 +30,7 @@ use Rattle.cpu.specs.declared.End.{End}
 use Rattle.cpu.specs.declared.Fetched.{Fetched}
 use Rattle.cpu.specs.declared.Stepped.{Stepped}
 use Rattle.cpu.specs.Step.{raised, accessIn, accessOf, loadOf, storeOf, applyOf, fetchedAt, fetchOf, stepDecoded, stepFetched, stepOf}
-use Rattle.stepping.specs.Stepping.{InCode, wordAt, early}
+use Rattle.stepping.specs.Stepping.{InCode, wordAt, IneRaised, IneOnly, early, ExistingIsLate}
 
 -- inside code the word is fetched
 pub fetched : (code : List ℕ) (pc : GuestAddr) → InCode code pc → fetchOf code pc ≡ Fetched.Word (wordAt code pc)
@@ -38,9 +38,7 @@ unfolding fetchOf fetchPlaceOf
 fetched code pc i =
     rw (eq-eqb (pc .0 % 4) 0 (i .0), le-leb codeBase (pc .0) (i .1), le-leb (pc .0 + 4) (codeBase + length code) (i .2)) refl
 
--- there is no such instruction: INE, with the word
-pub ine-raised : (code : List ℕ) (w : Window) (gr : List ℕ) (pc : GuestAddr) (arena : List ℕ)
-    → InCode code pc → decodeOf (wordAt code pc) ≡ Decoded.Unknown → stepOf code w gr pc arena ≡ raised (Fault.Ine (wordAt code pc)) gr pc arena
+pub ine-raised : IneRaised
 unfolding stepOf
 ine-raised code w gr pc arena i u = rw (fetched code pc i, u) refl
 
@@ -121,24 +119,22 @@ apply-late w (Effect.Store k v a) gr pc arena l = go (accessOf w a k) (access-la
     go (Access.Denied f) h = h
 apply-late w (Effect.Raise f) gr pc arena l = l
 
--- an instruction that exists raises neither INE nor ADEF
-pub existing-late : (code : List ℕ) (w : Window) (gr : List ℕ) (pc : GuestAddr) (arena : List ℕ) (i : Instruction) (f : Fault)
-    → InCode code pc → decodeOf (wordAt code pc) ≡ Decoded.Known i → stepOf code w gr pc arena .0 .end ≡ End.Raised f → early f ≡ false
+pub existing-is-late : ExistingIsLate
 unfolding stepOf
-existing-late code w gr pc arena i f h k e =
+existing-is-late code w gr pc arena i f h k e =
     let q : stepOf code w gr pc arena ≡ applyOf w (effectOf i gr pc) gr pc arena = rw (stepOf, fetched code pc h, k) refl in
     let r : applyOf w (effectOf i gr pc) gr pc arena .0 .end ≡ End.Raised f = ap (λ (s : Stepped × List ℕ). s .0 .end) (sym q) ∙ e in
     ap earlyEnd (sym r) ∙ apply-late w (effectOf i gr pc) gr pc arena (effect-late i gr pc)
 
--- INE only where there is no such instruction, and it carries the word there
-pub ine-only : (code : List ℕ) (w : Window) (gr : List ℕ) (pc : GuestAddr) (arena : List ℕ) (word : ℕ)
-    → InCode code pc → stepOf code w gr pc arena .0 .end ≡ End.Raised (Fault.Ine word)
-    → (decodeOf (wordAt code pc) ≡ Decoded.Unknown) × (word ≡ wordAt code pc)
-ine-only code w gr pc arena word i e = go (decodeOf (wordAt code pc)) refl
+pub ine-only : IneOnly
+ine-only code w gr pc arena i word e = go (decodeOf (wordAt code pc)) refl
   where
     go : (d : Decoded) → decodeOf (wordAt code pc) ≡ d → (decodeOf (wordAt code pc) ≡ Decoded.Unknown) × (word ≡ wordAt code pc)
-    go (Decoded.Known n) k = let h = existing-late code w gr pc arena n (Fault.Ine word) i k e in let z : _≡_ {A = ℕ} 0 1 = cc in absurd (omega arith)
+    go (Decoded.Known n) k =
+        let h = existing-is-late code w gr pc arena n (Fault.Ine word) i k e in
+        let z : _≡_ {A = ℕ} 0 1 = cc in
+        absurd (omega arith)
     go Decoded.Unknown k =
-        let q : End.Raised (Fault.Ine (wordAt code pc)) ≡ End.Raised (Fault.Ine word) = ap (λ (s : Stepped × List ℕ). s .0 .end) (sym (ine-raised code w gr pc arena i k)) ∙ e in
+        let q : End.Raised (Fault.Ine (wordAt code pc)) ≡ End.Raised (Fault.Ine word) = sym (ine-raised code w gr pc arena i k) ∙ e in
         let h : word ≡ wordAt code pc = cc in
         (k, h)

@@ -1,7 +1,8 @@
--- What a step keeps: register 0, the arena's length, every byte outside the window. Each goes over the four kinds of step.
-use mathlib.Core.Path.{_≡_, refl, _∙_}
+-- What a step keeps: all where it raises, register 0, the arena's length, every byte outside the window. Each goes over the four
+-- kinds of step.
+use mathlib.Core.Path.{_≡_, refl, ap, _∙_}
 use mathlib.Core.List.{List}
-use mathlib.Core.Logic.{_⊎_, ⊎-elim}
+use mathlib.Core.Logic.{_⊎_, inl, inr}
 use Prim.Native.Nat.{ℕ, _+_, _≤_, _<_}
 use native.Mathlib.Omega.{arith}
 use lib.ListN.{length, getD}
@@ -17,10 +18,18 @@ use Rattle.memory.specs.Memory.{storedOf}
 use Rattle.cpu.specs.declared.Stepped.{Stepped}
 use Rattle.cpu.specs.Step.{stepOf}
 use Rattle.cpu.proofs.Cases.{of-step}
-use Rattle.stepping.specs.Stepping.{Outside, KeptOutside}
+use Rattle.cpu.proofs.Raising.{raise-unchanged}
+use Rattle.stepping.specs.Stepping.{RaisingChangesNothing, ZeroStays, LengthStays, Outside, OutsideStays}
 
-pub zero-stays : (code : List ℕ) (w : Window) (gr : List ℕ) (pc : GuestAddr) (arena : List ℕ)
-    → reg gr 0 ≡ 0 → reg (stepOf code w gr pc arena .0 .regs) 0 ≡ 0
+pub raising-changes-nothing : RaisingChangesNothing
+raising-changes-nothing code w gr pc arena f e =
+    let u = raise-unchanged code w gr pc arena f e in (
+      ap (λ (s : Stepped × List ℕ). s .0 .regs) u,
+      ap (λ (s : Stepped × List ℕ). s .0 .pc) u,
+      ap (λ (s : Stepped × List ℕ). s .1) u,
+    )
+
+pub zero-stays : ZeroStays
 zero-stays code w gr pc arena z =
     of-step (λ (s : Stepped × List ℕ). reg (s .0 .regs) 0 ≡ 0) w gr pc arena
     (λ f. z)
@@ -29,8 +38,7 @@ zero-stays code w gr pc arena z =
     (λ k o v i j. z)
     code
 
-pub length-stays : (code : List ℕ) (w : Window) (gr : List ℕ) (pc : GuestAddr) (arena : List ℕ)
-    → length (stepOf code w gr pc arena .1) ≡ length arena
+pub length-stays : LengthStays
 unfolding storedOf
 length-stays code w gr pc arena =
     of-step (λ (s : Stepped × List ℕ). length (s .1) ≡ length arena) w gr pc arena
@@ -42,18 +50,14 @@ length-stays code w gr pc arena =
 
 -- a store in the window changes no byte outside
 stored-outside : (w : Window) (k : Width) (o : ArenaOffset) (v : ℕ) (arena : List ℕ)
-    → w .start .0 ≤ o .0 → o .0 + bytesOf k ≤ w .start .0 + w .len → KeptOutside w arena (storedOf k o v arena)
+    → w .start .0 ≤ o .0 → o .0 + bytesOf k ≤ w .start .0 + w .len → (n : ℕ) → Outside w n → getD (storedOf k o v arena) n 0 ≡ getD arena n 0
 unfolding storedOf
-stored-outside w k o v arena i j n out =
-    ⊎-elim
-    (λ (l : n < w .start .0). put-below (bytesOf k) (o .0) v arena n (omega arith))
-    (λ (l : w .start .0 + w .len ≤ n). put-above (bytesOf k) (o .0) v arena n (omega arith))
-    out
+stored-outside w k o v arena i j n (inl l) = put-below (bytesOf k) (o .0) v arena n (omega arith)
+stored-outside w k o v arena i j n (inr l) = put-above (bytesOf k) (o .0) v arena n (omega arith)
 
-pub outside-stays : (code : List ℕ) (w : Window) (gr : List ℕ) (pc : GuestAddr) (arena : List ℕ)
-    → KeptOutside w arena (stepOf code w gr pc arena .1)
+pub outside-stays : OutsideStays
 outside-stays code w gr pc arena =
-    of-step (λ (s : Stepped × List ℕ). KeptOutside w arena (s .1)) w gr pc arena
+    of-step (λ (s : Stepped × List ℕ). (n : ℕ) → Outside w n → getD (s .1) n 0 ≡ getD arena n 0) w gr pc arena
     (λ f n out. refl)
     (λ rd v to n out. refl)
     (λ to n out. refl)

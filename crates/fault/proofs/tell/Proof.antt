@@ -1,5 +1,4 @@
 -- `fault::tell` meets its contract, one line an arm. Assumes nothing.
-use mathlib.Core.Path.{refl}
 use borrow.Author.Needs.{needs}
 use Rattle.fault.proofs.tell.Statement.{statement}
 use Rattle.fault.proofs.tell.Tie as tie
@@ -8,17 +7,17 @@ pub tell-spec : {M : Type 1} → statement M
 tell-spec =
     tie.close
     (tie.spec
-    (λ c. search needs)
-    (λ c. search needs)
-    (λ c. search needs)
-    (λ c. search needs)
-    (λ c. search needs) (λ c. search needs)
-    (λ c. search needs) (λ c. search needs)
-    (λ c. search needs) (λ c. search needs)
-    (λ c. rw (c .before .fault .given .1) refl)
-    (λ c. rw (c .before .fault2 .given .1) refl)
-    (λ c. rw (c .before .fault3 .given .1) refl)
-    (λ c. rw (c .enum-told .given .1) refl)
-    (λ c. rw (c .before .fault4 .given .1) refl)
-    (λ c. rw (c .before .fault5 .given .1) refl)
-    (λ c. rw (c .before .fault6 .given .1) refl))
+    (λ c. search needs) (λ c κs. search needs)
+    (λ c. search needs) (λ c κs. search needs)
+    (λ c. search needs) (λ c κs. search needs)
+    (λ c. search needs) (λ c κs. search needs)
+    (λ c. search needs) (λ c. search needs) (λ c κs. search needs)
+    (λ c. search needs) (λ c. search needs) (λ c κs. search needs)
+    (λ c. search needs) (λ c. search needs) (λ c κs. search needs)
+    (λ c. rw (c .before .before .fault .given .1) (c .told .ensures))
+    (λ c. rw (c .before .before .fault2 .given .1) (c .told2 .ensures))
+    (λ c. rw (c .before .before .fault3 .given .1) (c .told3 .ensures))
+    (λ c. rw (c .before .enum-told .given .1) (c .told4 .ensures))
+    (λ c. rw (c .before .before .fault4 .given .1) (c .told5 .ensures))
+    (λ c. rw (c .before .before .fault5 .given .1) (c .told6 .ensures))
+    (λ c. rw (c .before .before .fault6 .given .1) (c .told7 .ensures)))

@@ -10,4 +10,4 @@ branch-to-spec =
     (tie.spec
     (λ c κs. search needs) (λ c κs. search needs) (λ c κs. search needs) (λ c κs. search needs) (λ c κs. search needs)
     (λ c. rw (c .words-on .ensures, ← c .before .before .before .get2 .ensures, ← c .before .before .before .before .get .ensures, ← c .before .before .taken .ensures, c .before .if1 .taken) refl)
-    (λ c. rw (c .next .ensures, ← c .before .before .before .get2 .ensures, ← c .before .before .before .before .get .ensures, ← c .before .before .taken .ensures, c .before .if1 .left) refl))
+    (λ c. rw (c .before .before .before .before .next .ensures, ← c .before .before .get2 .ensures, ← c .before .before .before .get .ensures, ← c .before .taken .ensures, c .if1 .left) refl))
