@@ -7,7 +7,6 @@ use mathlib.Core.List.{List}
 use lib.Dec.{eqb}
 use lib.ListN.{length}
 use Rattle.bytes.specs.Bytes.{getLE}
-use Rattle.place.specs.declared.ArenaOffset.{ArenaOffset}
 use Rattle.place.specs.declared.FetchPlace.{FetchPlace}
 use Rattle.place.specs.declared.GuestAddr.{GuestAddr}
 use Rattle.place.specs.declared.Located.{Located}

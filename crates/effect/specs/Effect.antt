@@ -26,7 +26,8 @@ use Rattle.place.specs.declared.Width.the-variants.{Word, Double}
 use Rattle.registers.specs.Registers.{reg}
 use Rattle.fault.specs.declared.Fault.{Fault}
 use Rattle.control.specs.Control.{passesOf, configOf}
-use Rattle.operate.specs.Operate.{nextOf, branchTo, zeroBranchTo, jumpTo, atOffset, atIndex, atPointer, storeWidthOf}
+use Rattle.memory.specs.Memory.{storeWidthOf}
+use Rattle.operate.specs.Operate.{nextOf, branchTo, zeroBranchTo, jumpTo, atOffset, atIndex, atPointer}
 use Rattle.effect.specs.declared.Effect.{Effect}
 
 -- BL: "GR[1] = PC + 4"; JIRL: "GR[rd] = PC + 4". B saves none: a write to register 0 is dropped

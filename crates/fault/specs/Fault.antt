@@ -1,10 +1,9 @@
 -- 01, "Stops": Ecode, subcode and the carried value of each fault.
 use Prim.Native.Nat.{ℕ}
 use mathlib.Core.Path.{_≡_, refl}
-use mathlib.Core.Bool.{Bool, true, false, _&&_, not}
+use mathlib.Core.Bool.{Bool, true, _&&_, not}
 use mathlib.Core.List.{List, [], _∷_}
 use lib.Dec.{eqb}
-use Rattle.place.specs.declared.GuestAddr.{GuestAddr}
 use Rattle.fault.specs.declared.Fault.{Fault}
 use Rattle.fault.specs.declared.Fault.the-variants.{Adef, Adem, Ale, Bce, Syscall, Break, Ine}
 use Rattle.fault.specs.declared.Telling.{Telling}

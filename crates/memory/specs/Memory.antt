@@ -5,6 +5,8 @@ use Rattle.word.specs.Word.{sext}
 use Rattle.bytes.specs.Bytes.{getLE, putLE}
 use Rattle.isa.specs.declared.Load.{Load}
 use Rattle.isa.specs.declared.Load.the-variants.{LdB, LdH, LdW, LdD, LdBu, LdHu, LdWu}
+use Rattle.isa.specs.declared.Store.{Store}
+use Rattle.isa.specs.declared.Store.the-variants.{StB, StH, StW, StD}
 use Rattle.place.specs.declared.ArenaOffset.{ArenaOffset}
 use Rattle.place.specs.declared.Width.{Width}
 use Rattle.place.specs.declared.Width.the-variants.{Byte, Half, Word, Double}
@@ -35,5 +37,12 @@ unfoldable pub loadedOf : Load → ArenaOffset → List ℕ → ℕ
 loadedOf kind at arena = extendedOf kind (getLE (bytesOf (loadWidthOf kind)) (at .0) arena)
 
 -- ST.B, ST.H, ST.W, ST.D: "writes the [7:0] / [15:0] / [31:0] / [63:0] bits of the data in the general register rd to the memory"
+abbrev pub storeWidthOf : Store → Width
+storeWidthOf StB = Byte
+storeWidthOf StH = Half
+storeWidthOf StW = Word
+storeWidthOf StD = Double
+
+-- the arena after a store
 unfoldable pub storedOf : Width → ArenaOffset → ℕ → List ℕ → List ℕ
 storedOf width at value arena = putLE (bytesOf width) (at .0) value arena

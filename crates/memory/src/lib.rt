@@ -3,8 +3,9 @@ ghost use mathlib.Core.Path.{_≡_};
 ghost use Prim.Native.Nat.{_+_, _≤_};
 ghost use lib.ListN.{length};
 ghost use Rattle.place.specs.Place.{bytesOf};
-ghost use Rattle.memory.specs.Memory.{loadWidthOf, loadedOf, storedOf};
+ghost use Rattle.memory.specs.Memory.{loadWidthOf, loadedOf, storeWidthOf, storedOf};
 use isa::Load;
+use isa::Store;
 use place::ArenaOffset;
 use place::Width;
 
@@ -19,6 +20,17 @@ pub fn load_width(kind: Load) -> Width
         Load::LdBu => Width::Byte,
         Load::LdHu => Width::Half,
         Load::LdWu => Width::Word,
+    }
+}
+
+pub fn store_width(op: Store) -> Width
+    ensures { λ r. ⌜ r ≡ storeWidthOf op ⌝ }
+{
+    match op {
+        Store::StB => Width::Byte,
+        Store::StH => Width::Half,
+        Store::StW => Width::Word,
+        Store::StD => Width::Double,
     }
 }
 

@@ -3,16 +3,12 @@ use Prim.Native.Nat.{ℕ}
 use mathlib.Core.Bool.{cond}
 use mathlib.Core.List.{List}
 use Rattle.place.specs.declared.GuestAddr.{GuestAddr}
-use Rattle.place.specs.declared.Width.{Width}
-use Rattle.place.specs.declared.Width.the-variants.{Byte, Half, Word, Double}
 use Rattle.place.specs.Place.{plusOf}
 use Rattle.isa.specs.declared.Operands.{Operands}
 use Rattle.isa.specs.declared.Branch.{Branch}
 use Rattle.isa.specs.declared.ZeroBranch.{ZeroBranch}
 use Rattle.isa.specs.declared.Jump.{Jump}
 use Rattle.isa.specs.declared.Jump.the-variants.{B, Bl, Jirl}
-use Rattle.isa.specs.declared.Store.{Store}
-use Rattle.isa.specs.declared.Store.the-variants.{StB, StH, StW, StD}
 use Rattle.registers.specs.Registers.{reg}
 use Rattle.control.specs.Control.{takenOf, zeroTakenOf, wordsOnOf, bytesOnOf}
 
@@ -49,10 +45,3 @@ atIndex o gr = plusOf (addressIn gr (o .rj)) (reg gr (o .rk))
 -- 2.2.5.3, LDPTR and STPTR: "vaddr = GR[rj] + SignExtend({si14, 2'b0}, GRLEN)"
 abbrev pub atPointer : Operands → List ℕ → GuestAddr
 atPointer o gr = wordsOnOf (addressIn gr (o .rj)) (o .imm) 16
-
--- ST.B, ST.H, ST.W, ST.D
-abbrev pub storeWidthOf : Store → Width
-storeWidthOf StB = Byte
-storeWidthOf StH = Half
-storeWidthOf StW = Word
-storeWidthOf StD = Double

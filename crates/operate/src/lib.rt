@@ -12,7 +12,7 @@ ghost use Rattle.fields.specs.Bytepick.{bytepickOf};
 ghost use Rattle.fields.specs.Field.{fieldOf};
 ghost use Rattle.control.specs.Control.{configOf};
 ghost use Rattle.registers.specs.Registers.{reg};
-ghost use Rattle.operate.specs.Operate.{nextOf, branchTo, zeroBranchTo, jumpTo, atOffset, atIndex, atPointer, storeWidthOf};
+ghost use Rattle.operate.specs.Operate.{nextOf, branchTo, zeroBranchTo, jumpTo, atOffset, atIndex, atPointer};
 use alu::Alsl;
 use alu::Alu;
 use alu::Immediate;
@@ -25,10 +25,8 @@ use isa::Config;
 use isa::FieldOperands;
 use isa::Jump;
 use isa::Operands;
-use isa::Store;
 use isa::ZeroBranch;
 use place::GuestAddr;
-use place::Width;
 use product::Product;
 use quotient::Division;
 use shift::Shift;
@@ -178,15 +176,4 @@ pub fn at_pointer(o: Operands, regs: &[u64; 32]) -> GuestAddr
     ensures { λ r. ⌜ r ≡ atPointer o (now (regs .entry)) ⌝ }
 {
     control::words_on(GuestAddr(registers::get(regs, o.rj)), o.imm, 16)
-}
-
-pub fn store_width(op: Store) -> Width
-    ensures { λ r. ⌜ r ≡ storeWidthOf op ⌝ }
-{
-    match op {
-        Store::StB => Width::Byte,
-        Store::StH => Width::Half,
-        Store::StW => Width::Word,
-        Store::StD => Width::Double,
-    }
 }

@@ -5,8 +5,6 @@ use mathlib.Core.Bool.{Bool, cond, _&&_}
 use lib.Dec.{leb, eqb}
 use Rattle.word.specs.Word.{addD}
 use Rattle.place.specs.declared.GuestAddr.{GuestAddr}
-use Rattle.place.specs.declared.ArenaOffset.{ArenaOffset}
-use Rattle.place.specs.declared.CodeOffset.{CodeOffset}
 use Rattle.place.specs.declared.Window.{Window}
 use Rattle.place.specs.declared.Width.{Width}
 use Rattle.place.specs.declared.Width.the-variants.{Byte, Half, Word, Double}

@@ -1,9 +1,9 @@
 -- What is raised before an instruction executes: INE where there is no such instruction, ADEF where there is no word, and neither
 -- by an instruction that exists.
-use mathlib.Core.Path.{_≡_, refl, sym, ap, subst, _∙_}
-use mathlib.Core.Bool.{Bool, true, false, cond, _&&_}
+use mathlib.Core.Path.{_≡_, refl, sym, ap, _∙_}
+use mathlib.Core.Bool.{Bool, true, false, cond}
 use mathlib.Core.List.{List}
-use Prim.Native.Nat.{ℕ, _+_, _-_, _%_}
+use Prim.Native.Nat.{ℕ, _+_, _%_}
 use native.Mathlib.Omega.{arith}
 use lib.Dec.{eqb}
 use lib.ListN.{length}
@@ -29,7 +29,7 @@ use Rattle.cpu.specs.declared.Access.{Access}
 use Rattle.cpu.specs.declared.End.{End}
 use Rattle.cpu.specs.declared.Fetched.{Fetched}
 use Rattle.cpu.specs.declared.Stepped.{Stepped}
-use Rattle.cpu.specs.Step.{raised, accessIn, accessOf, loadOf, storeOf, applyOf, fetchedAt, fetchOf, stepDecoded, stepFetched, stepOf}
+use Rattle.cpu.specs.Step.{accessIn, accessOf, loadOf, storeOf, applyOf, fetchOf, stepOf}
 use Rattle.stepping.specs.Stepping.{InCode, wordAt, IneRaised, IneOnly, early, ExistingIsLate}
 
 -- inside code the word is fetched

@@ -2,12 +2,11 @@
 -- kinds of step.
 use mathlib.Core.Path.{_≡_, refl, ap, _∙_}
 use mathlib.Core.List.{List}
-use mathlib.Core.Logic.{_⊎_, inl, inr}
-use Prim.Native.Nat.{ℕ, _+_, _≤_, _<_}
+use mathlib.Core.Logic.{inl, inr}
+use Prim.Native.Nat.{ℕ, _+_, _≤_}
 use native.Mathlib.Omega.{arith}
 use lib.ListN.{length, getD}
 use Rattle.place.specs.declared.ArenaOffset.{ArenaOffset}
-use Rattle.place.specs.declared.GuestAddr.{GuestAddr}
 use Rattle.place.specs.declared.Width.{Width}
 use Rattle.place.specs.declared.Window.{Window}
 use Rattle.place.specs.Place.{bytesOf}
@@ -16,7 +15,6 @@ use Rattle.registers.specs.Registers.{reg}
 use Rattle.registers.proofs.Zero.{zero-kept}
 use Rattle.memory.specs.Memory.{storedOf}
 use Rattle.cpu.specs.declared.Stepped.{Stepped}
-use Rattle.cpu.specs.Step.{stepOf}
 use Rattle.cpu.proofs.Cases.{of-step}
 use Rattle.cpu.proofs.Raising.{raise-unchanged}
 use Rattle.stepping.specs.Stepping.{RaisingChangesNothing, ZeroStays, LengthStays, Outside, OutsideStays}

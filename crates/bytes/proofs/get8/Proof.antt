@@ -1,5 +1,4 @@
 -- `bytes::get8` meets its contract: two halves. Assumes nothing.
-use native.Mathlib.Omega.{arith}
 use denote.Ref.{now}
 use borrow.Author.Needs.{needs}
 use Rattle.bytes.proofs.Numbers.{get-halves}

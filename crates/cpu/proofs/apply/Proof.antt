@@ -1,9 +1,8 @@
 -- `cpu::apply` meets its contract, an effect a line. Assumes nothing.
-use mathlib.Core.Path.{_≡_, refl, sym, ap, _∙_}
+use mathlib.Core.Path.{refl, sym, _∙_}
 use native.Mathlib.Omega.{arith}
 use borrow.Author.Needs.{needs}
-use Rattle.place.specs.Place.{bytesOf}
-use Rattle.cpu.specs.Step.{accessOf, applyOf}
+use Rattle.cpu.specs.Step.{applyOf}
 use Rattle.cpu.proofs.Accesses.{access-inside}
 use Rattle.cpu.proofs.apply.Statement.{statement}
 use Rattle.cpu.proofs.apply.Tie as tie

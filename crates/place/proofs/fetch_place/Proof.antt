@@ -1,9 +1,8 @@
 -- `place::fetch_place` meets its contract. Assumes nothing.
-use mathlib.Core.Path.{_≡_, refl, sym, _∙_}
+use mathlib.Core.Path.{refl, sym, _∙_}
 use native.Mathlib.Omega.{arith}
-use borrow.Author.Needs.{needs}
 use borrow.Author.Tests.{eq-eqb, ne-eqb}
-use Rattle.place.specs.Place.{codeBase, bytesOf, fetchPlaceOf}
+use Rattle.place.specs.Place.{codeBase, fetchPlaceOf}
 use Rattle.place.proofs.Reach.{within-true}
 use Rattle.place.proofs.fetch_place.Statement.{statement}
 use Rattle.place.proofs.fetch_place.Tie as tie

@@ -1,9 +1,8 @@
 -- `place::locate` meets its contract. Assumes nothing.
-use mathlib.Core.Path.{_≡_, refl, sym, _∙_}
+use mathlib.Core.Path.{refl, sym, _∙_}
 use native.Mathlib.Omega.{arith}
-use borrow.Author.Needs.{needs}
 use Rattle.place.specs.Place.{windowBase, bytesOf, locateOf}
-use Rattle.place.proofs.Reach.{bytes-small, within-true}
+use Rattle.place.proofs.Reach.{within-true}
 use Rattle.place.proofs.locate.Statement.{statement}
 use Rattle.place.proofs.locate.Tie as tie
 

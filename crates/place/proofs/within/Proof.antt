@@ -1,6 +1,4 @@
 -- `place::within` meets its contract: the code's two comparisons are the definition's on whole numbers. Assumes nothing.
-use mathlib.Core.Path.{_≡_, refl, ap, _∙_}
-use native.Mathlib.Omega.{arith}
 use borrow.Author.Needs.{needs}
 use Rattle.place.specs.Place.{bytesOf}
 use Rattle.place.proofs.Reach.{bytes-small, room, no-room}

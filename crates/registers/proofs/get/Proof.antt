@@ -1,5 +1,4 @@
 -- `registers::get` meets its contract. Assumes nothing.
-use mathlib.Core.Path.{refl}
 use borrow.Author.Needs.{needs}
 use Rattle.registers.specs.Registers.{reg}
 use Rattle.registers.proofs.get.Statement.{statement}
