@@ -1,18 +1,20 @@
 -- What is raised before an instruction executes: INE where there is no such instruction, ADEF where there is no word, and neither
 -- by an instruction that exists.
 use mathlib.Core.Path.{_≡_, refl, sym, ap, _∙_}
-use mathlib.Core.Bool.{Bool, true, false, cond}
+use mathlib.Core.Bool.{Bool, true, false, cond, _&&_}
 use mathlib.Core.List.{List}
-use Prim.Native.Nat.{ℕ, _+_, _%_}
+use Prim.Native.Nat.{ℕ, _+_, _-_, _%_}
 use native.Mathlib.Omega.{arith}
 use lib.Dec.{eqb}
 use lib.ListN.{length}
-use borrow.Author.Tests.{eq-eqb, le-leb}
+use borrow.Author.Tests.{eqb-true, eq-eqb, le-leb}
+use Rattle.place.specs.declared.FetchPlace.{FetchPlace}
 use Rattle.place.specs.declared.GuestAddr.{GuestAddr}
 use Rattle.place.specs.declared.Located.{Located}
 use Rattle.place.specs.declared.Width.{Width}
 use Rattle.place.specs.declared.Window.{Window}
-use Rattle.place.specs.Place.{codeBase, bytesOf, locateOf, fetchPlaceOf}
+use Rattle.place.specs.Place.{codeBase, bytesOf, withinOf, locateOf, fetchPlaceOf}
+use Rattle.place.proofs.Reach.{within-true}
 use Rattle.isa.specs.declared.Decoded.{Decoded}
 use Rattle.isa.specs.declared.Instruction.{Instruction}
 use Rattle.isa.specs.declared.Pointer.the-variants.{LdptrW, LdptrD, StptrW, StptrD}
@@ -29,14 +31,31 @@ use Rattle.cpu.specs.declared.Access.{Access}
 use Rattle.cpu.specs.declared.End.{End}
 use Rattle.cpu.specs.declared.Fetched.{Fetched}
 use Rattle.cpu.specs.declared.Stepped.{Stepped}
-use Rattle.cpu.specs.Step.{accessIn, accessOf, loadOf, storeOf, applyOf, fetchOf, stepOf}
-use Rattle.stepping.specs.Stepping.{InCode, wordAt, IneRaised, IneOnly, early, ExistingIsLate}
+use Rattle.cpu.specs.Step.{accessIn, accessOf, loadOf, storeOf, applyOf, fetchOf, stepOf, fetchedAt, stepDecoded, stepFetched}
+use Rattle.stepping.specs.Stepping.{InCode, AdefRaised, AdefOnly, wordAt, IneRaised, IneOnly, early, ExistingIsLate}
 
 -- inside code the word is fetched
 pub fetched : (code : List ℕ) (pc : GuestAddr) → InCode code pc → fetchOf code pc ≡ Fetched.Word (wordAt code pc)
 unfolding fetchOf fetchPlaceOf
 fetched code pc i =
     rw (eq-eqb (pc .0 % 4) 0 (i .0), le-leb codeBase (pc .0) (i .1), le-leb (pc .0 + 4) (codeBase + length code) (i .2)) refl
+
+-- elsewhere no word is
+unfetched : (code : List ℕ) (pc : GuestAddr) → (InCode code pc → ⊥) → fetchOf code pc ≡ Fetched.Bad
+unfolding fetchOf fetchPlaceOf
+unfetched code pc out = go (eqb (pc .0 % 4) 0) (withinOf codeBase (length code) (pc .0) 4) refl refl
+  where
+    go : (s t : Bool) → eqb (pc .0 % 4) 0 ≡ s → withinOf codeBase (length code) (pc .0) 4 ≡ t
+        → fetchedAt (cond (s && t) (FetchPlace.At (record { 0 = pc .0 - codeBase })) FetchPlace.Outside) code ≡ Fetched.Bad
+    go true true p q =
+        let i = within-true codeBase (length code) (pc .0) 4 q in
+        absurd (out (eqb-true (pc .0 % 4) 0 p, i .0, i .1))
+    go true false p q = refl
+    go false t p q = refl
+
+pub adef-raised : AdefRaised
+unfolding stepOf
+adef-raised code w gr pc arena out = rw (unfetched code pc out) refl
 
 pub ine-raised : IneRaised
 unfolding stepOf
@@ -138,3 +157,20 @@ ine-only code w gr pc arena i word e = go (decodeOf (wordAt code pc)) refl
         let q : End.Raised (Fault.Ine (wordAt code pc)) ≡ End.Raised (Fault.Ine word) = sym (ine-raised code w gr pc arena i k) ∙ e in
         let h : word ≡ wordAt code pc = cc in
         (k, h)
+
+pub adef-only : AdefOnly
+unfolding stepOf
+adef-only code w gr pc arena a e = go (fetchOf code pc) refl e
+  where
+    done-late : (word : ℕ) (d : Decoded) → stepDecoded d word w gr pc arena .0 .end ≡ End.Raised (Fault.Adef a) → ⊥
+    done-late word (Decoded.Known i) q =
+        let h : earlyEnd (End.Raised (Fault.Adef a)) ≡ false = ap earlyEnd (sym q) ∙ apply-late w (effectOf i gr pc) gr pc arena (effect-late i gr pc) in
+        let z : _≡_ {A = ℕ} 0 1 = cc in
+        absurd (omega arith)
+    done-late word Decoded.Unknown q = let z : _≡_ {A = ℕ} 0 1 = cc in absurd (omega arith)
+
+    go : (x : Fetched) → fetchOf code pc ≡ x → stepFetched x w gr pc arena .0 .end ≡ End.Raised (Fault.Adef a) → (InCode code pc → ⊥) × (a ≡ pc)
+    go (Fetched.Word word) p q = absurd (done-late word (decodeOf word) q)
+    go Fetched.Bad p q =
+        let h : a ≡ pc = cc in
+        ((λ (i : InCode code pc). let f = fetched code pc i in let z : _≡_ {A = ℕ} 0 1 = cc in absurd (omega arith)), h)

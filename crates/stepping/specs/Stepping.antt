@@ -52,6 +52,14 @@ InCode code pc = (pc .0 % 4 ≡ 0) × (codeBase ≤ pc .0) × (pc .0 + 4 ≤ cod
 abbrev pub wordAt : List ℕ → GuestAddr → ℕ
 wordAt code pc = getLE 4 (pc .0 - codeBase) code
 
+-- ADEF everywhere else: it carries the pc
+abbrev pub AdefRaised : Type 0
+AdefRaised = EveryStep (λ code w gr pc arena s. (InCode code pc → ⊥) → s .0 .end ≡ End.Raised (Adef pc))
+
+-- and ADEF nowhere inside code
+abbrev pub AdefOnly : Type 0
+AdefOnly = EveryStep (λ code w gr pc arena s. (a : GuestAddr) → s .0 .end ≡ End.Raised (Adef a) → (InCode code pc → ⊥) × (a ≡ pc))
+
 -- INE where decoding says that there is no such instruction: it carries the word there
 abbrev pub IneRaised : Type 0
 IneRaised =
