@@ -2,16 +2,13 @@
 use mathlib.Core.Path.{_≡_, refl, sym, ap, _∙_}
 use mathlib.Core.List.{List}
 use Prim.Native.Nat.{ℕ, zero, suc, _+_, _*_, _/_, _%_, _^_, _≤_, _<_}
-use native.Mathlib.Nat.{mul-comm, mul-assoc, zero-add, add-zero, suc-add, add-suc, one-mul, div-one, pow-succ', pow-le-pow-right, div-div-eq-div-mul}
+use native.Mathlib.Nat.{mul-comm, mul-assoc, zero-add, add-zero, suc-add, add-suc, one-mul, div-one, pow-succ', one-le-pow, div-div-eq-div-mul}
 use native.Mathlib.Omega.{arith}
 use lib.Dec.{lit<}
 use lib.Arith.{mod-mul}
 use lib.ListN.{length, getD, set, length-set}
 use lib.Seq.{getD-set-same, getD-set-other}
 use Rattle.bytes.specs.Bytes.{getLE, putLE}
-
-pow-pos : (n : ℕ) → 0 < 256 ^ n
-pow-pos n = let z : 0 ≤ n = omega arith in omega (arith, pow-le-pow-right {n = 256} (lit< tt) z)
 
 -- a number of m + n bytes is its lower m bytes and its upper n
 pub get-join : (m n at : ℕ) (s : List ℕ) → getLE (m + n) at s ≡ getLE m at s + 256 ^ m * getLE n (at + m) s
@@ -70,7 +67,7 @@ get-put (suc n) at v s h =
     put-below n (suc at) (v / 256) t at (omega arith) ∙ getD-set-same s at (v % 256) 0 (omega arith) in
     let r : getLE n (suc at) (putLE n (suc at) (v / 256) t) ≡ v / 256 % 256 ^ n =
     get-put n (suc at) (v / 256) t (rw length-set (omega arith)) in
-    let p : v % (256 ^ n * 256) ≡ (v / 256 % 256 ^ n) * 256 + v % 256 = mod-mul v (pow-pos n) (lit< tt) in
+    let p : v % (256 ^ n * 256) ≡ (v / 256 % 256 ^ n) * 256 + v % 256 = mod-mul v (one-le-pow n 256 (lit< tt)) (lit< tt) in
     let q : 256 ^ suc n ≡ 256 ^ n * 256 = pow-succ' 256 n ∙ mul-comm 256 (256 ^ n) in
     rw (b, r, q, p) (omega arith)
 

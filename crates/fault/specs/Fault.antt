@@ -1,7 +1,7 @@
 -- 01, "Stops": Ecode, subcode and the carried value of each fault.
 use Prim.Native.Nat.{ℕ}
 use mathlib.Core.Path.{_≡_, refl}
-use mathlib.Core.Bool.{Bool, true, _&&_, not}
+use mathlib.Core.Bool.{Bool, true, cond, _&&_, not}
 use mathlib.Core.List.{List, [], _∷_}
 use lib.Dec.{eqb}
 use Rattle.fault.specs.declared.Fault.{Fault}
@@ -38,3 +38,22 @@ allUnlike (f ∷ fs) = unlike f fs && allUnlike fs
 
 pub kinds-differ : allUnlike kinds ≡ true
 kinds-differ = refl
+
+-- From the numbers back to the fault: Ecode and subcode alone say which kind it is. So two faults with the same numbers are the same
+-- fault, whatever they carry; a kind that is added without numbers of its own is refused here.
+abbrev pub untold : Telling → Fault
+untold t =
+    cond (eqb (t .ecode) 8) (cond (eqb (t .subcode) 0) (Adef (record { 0 = t .carried })) (Adem (record { 0 = t .carried })))
+    (cond (eqb (t .ecode) 9) (Ale (record { 0 = t .carried }))
+    (cond (eqb (t .ecode) 10) Bce
+    (cond (eqb (t .ecode) 11) (Syscall (t .carried))
+    (cond (eqb (t .ecode) 12) (Break (t .carried)) (Ine (t .carried))))))
+
+pub told-back : (f : Fault) → untold (tellingOf f) ≡ f
+told-back (Adef pc) = refl
+told-back (Adem a) = refl
+told-back (Ale a) = refl
+told-back Bce = refl
+told-back (Syscall c) = refl
+told-back (Break c) = refl
+told-back (Ine w) = refl
