@@ -15,7 +15,6 @@ use Rattle.digits.specs.Unary.{unaryOf}
 use Rattle.fields.specs.Bytepick.{bytepickOf}
 use Rattle.fields.specs.Field.{fieldOf}
 use Rattle.isa.specs.declared.Instruction.{Instruction}
-use Rattle.isa.specs.declared.Jump.{Jump}
 use Rattle.isa.specs.declared.Jump.the-variants.{B, Bl, Jirl}
 use Rattle.isa.specs.declared.Load.the-variants.{LdW, LdD}
 use Rattle.isa.specs.declared.Pointer.the-variants.{LdptrW, LdptrD, StptrW, StptrD}
@@ -29,12 +28,6 @@ use Rattle.control.specs.Control.{passesOf, configOf}
 use Rattle.memory.specs.Memory.{storeWidthOf}
 use Rattle.operate.specs.Operate.{nextOf, branchTo, zeroBranchTo, jumpTo, atOffset, atIndex, atPointer}
 use Rattle.effect.specs.declared.Effect.{Effect}
-
--- BL: "GR[1] = PC + 4"; JIRL: "GR[rd] = PC + 4". B saves none: a write to register 0 is dropped
-abbrev pub linkOf : Jump → ℕ → ℕ
-linkOf B rd = 0
-linkOf Bl rd = 1
-linkOf Jirl rd = rd
 
 -- 01, "Stops": SYSCALL and BREAK carry their 15-bit code
 abbrev pub trapOf : Trap → ℕ → Fault
@@ -56,10 +49,13 @@ effectOf (Instruction.ShiftImmediate op o) gr pc = Effect.Write (o .rd) (shiftOf
 effectOf (Instruction.Unary op o) gr pc = Effect.Write (o .rd) (unaryOf op (reg gr (o .rj))) (nextOf pc)
 effectOf (Instruction.Bytepick op o) gr pc = Effect.Write (o .rd) (bytepickOf op (reg gr (o .rj)) (reg gr (o .rk)) (o .imm)) (nextOf pc)
 effectOf (Instruction.Field op o) gr pc = Effect.Write (o .rd) (fieldOf op (reg gr (o .rd)) (reg gr (o .rj)) (o .msb) (o .lsb)) (nextOf pc)
--- 2.2.4, branches: "JIRL reads rj before it writes rd" (01): the target is made of the registers as they were
+-- 2.2.4, branches. BL: "GR[1] = PC + 4"; JIRL: "GR[rd] = PC + 4", and it "reads rj before it writes rd" (01): the target is made of the
+-- registers as they were
 effectOf (Instruction.Branch op o) gr pc = Effect.Jump (branchTo op o gr pc)
 effectOf (Instruction.ZeroBranch op o) gr pc = Effect.Jump (zeroBranchTo op o gr pc)
-effectOf (Instruction.Jump op o) gr pc = Effect.Write (linkOf op (o .rd)) (nextOf pc .0) (jumpTo op o gr pc)
+effectOf (Instruction.Jump B o) gr pc = Effect.Jump (jumpTo B o gr pc)
+effectOf (Instruction.Jump Bl o) gr pc = Effect.Write 1 (nextOf pc .0) (jumpTo Bl o gr pc)
+effectOf (Instruction.Jump Jirl o) gr pc = Effect.Write (o .rd) (nextOf pc .0) (jumpTo Jirl o gr pc)
 -- 2.2.5, accesses
 effectOf (Instruction.Load op o) gr pc = Effect.Load op (o .rd) (atOffset o gr)
 effectOf (Instruction.Store op o) gr pc = Effect.Store (storeWidthOf op) (reg gr (o .rd)) (atOffset o gr)

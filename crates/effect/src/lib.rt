@@ -1,7 +1,7 @@
 // What an instruction asks for: a pure function of the instruction, the registers and the pc. No arena and no window is in sight.
 ghost use mathlib.Core.Path.{_≡_};
 ghost use Rattle.isa.specs.declared.Instruction.{Instruction};
-ghost use Rattle.effect.specs.Effect.{linkOf, trapOf, effectOf};
+ghost use Rattle.effect.specs.Effect.{trapOf, effectOf};
 use fault::Fault;
 use isa::Assert;
 use isa::Instruction;
@@ -54,14 +54,16 @@ fn trap_of(op: Trap, code: u32) -> Fault
     }
 }
 
-// The register that takes the return address; B has none, and a write to register 0 is dropped.
-fn link_of(op: Jump, rd: u8) -> u8
-    ensures { λ r. ⌜ r ≡ linkOf op rd ⌝ }
+// B, BL and JIRL. The target is made before the return address is written.
+fn jump_of(op: Jump, o: Operands, regs: &[u64; 32], pc: GuestAddr) -> Effect
+    ensures { λ r. ⌜ r ≡ effectOf (Instruction.Jump op o) (now (regs .entry)) pc ⌝ }
 {
+    let to = jump_to(op, o, regs, pc);
+    let next = operate::next(pc);
     match op {
-        Jump::B => 0,
-        Jump::Bl => 1,
-        Jump::Jirl => rd,
+        Jump::B => Effect::Jump(to),
+        Jump::Bl => Effect::Write(1, next.0, to),
+        Jump::Jirl => Effect::Write(o.rd, next.0, to),
     }
 }
 
@@ -109,9 +111,7 @@ pub fn ask(i: Instruction, regs: &[u64; 32], pc: GuestAddr) -> Effect
         Instruction::Field(op, o) => Effect::Write(o.rd, field_of(op, o, regs), next),
         Instruction::Branch(op, o) => Effect::Jump(branch_to(op, o, regs, pc)),
         Instruction::ZeroBranch(op, o) => Effect::Jump(zero_branch_to(op, o, regs, pc)),
-        Instruction::Jump(op, o) => {
-            Effect::Write(link_of(op, o.rd), next.0, jump_to(op, o, regs, pc))
-        }
+        Instruction::Jump(op, o) => jump_of(op, o, regs, pc),
         Instruction::Load(op, o) => Effect::Load(op, o.rd, at_offset(o, regs)),
         Instruction::LoadIndexed(op, o) => Effect::Load(op, o.rd, at_index(o, regs)),
         Instruction::Store(op, o) => {

@@ -17,6 +17,7 @@ use Rattle.place.specs.Place.{codeBase, bytesOf, withinOf, locateOf, fetchPlace
 use Rattle.place.proofs.Reach.{within-true}
 use Rattle.isa.specs.declared.Decoded.{Decoded}
 use Rattle.isa.specs.declared.Instruction.{Instruction}
+use Rattle.isa.specs.declared.Jump.the-variants.{B, Bl, Jirl}
 use Rattle.isa.specs.declared.Pointer.the-variants.{LdptrW, LdptrD, StptrW, StptrD}
 use Rattle.isa.specs.declared.Trap.the-variants.{Syscall, Break}
 use Rattle.opcode.specs.Decode.{decodeOf}
@@ -92,7 +93,9 @@ effect-late (Instruction.Unary op o) gr pc = refl
 effect-late (Instruction.Field op o) gr pc = refl
 effect-late (Instruction.Branch op o) gr pc = refl
 effect-late (Instruction.ZeroBranch op o) gr pc = refl
-effect-late (Instruction.Jump op o) gr pc = refl
+effect-late (Instruction.Jump B o) gr pc = refl
+effect-late (Instruction.Jump Bl o) gr pc = refl
+effect-late (Instruction.Jump Jirl o) gr pc = refl
 effect-late (Instruction.Load op o) gr pc = refl
 effect-late (Instruction.LoadIndexed op o) gr pc = refl
 effect-late (Instruction.Store op o) gr pc = refl
