@@ -1,12 +1,13 @@
 -- 01, "Stops": Ecode, subcode and the carried value of each fault.
 use Prim.Native.Nat.{ℕ}
 use mathlib.Core.Path.{_≡_, refl}
-use mathlib.Core.Bool.{Bool, true, cond, _&&_, not}
+use mathlib.Core.Bool.{Bool, true, cond, _&&_}
 use mathlib.Core.List.{List, [], _∷_}
 use lib.Dec.{eqb}
 use Rattle.fault.specs.declared.Fault.{Fault}
 use Rattle.fault.specs.declared.Fault.the-variants.{Adef, Adem, Ale, Bce, Syscall, Break, Ine}
 use Rattle.fault.specs.declared.Telling.{Telling}
+use Rattle.fault.specs.Differ.{allDiffer}
 
 abbrev pub toldOf : ℕ → ℕ → ℕ → Telling
 toldOf e s v = record { ecode = e; subcode = s; carried = v }
@@ -28,15 +29,7 @@ kinds = Adef (record { 0 = 0 }) ∷ Adem (record { 0 = 0 }) ∷ Ale (record { 0 
 abbrev pub sameKind : Telling → Telling → Bool
 sameKind s t = eqb (s .ecode) (t .ecode) && eqb (s .subcode) (t .subcode)
 
-abbrev pub unlike : Fault → List Fault → Bool
-unlike f [] = true
-unlike f (g ∷ gs) = not (sameKind (tellingOf f) (tellingOf g)) && unlike f gs
-
-abbrev pub allUnlike : List Fault → Bool
-allUnlike [] = true
-allUnlike (f ∷ fs) = unlike f fs && allUnlike fs
-
-pub kinds-differ : allUnlike kinds ≡ true
+pub kinds-differ : allDiffer (λ f g. sameKind (tellingOf f) (tellingOf g)) kinds ≡ true
 kinds-differ = refl
 
 -- From the numbers back to the fault: Ecode and subcode alone say which kind it is. So two faults with the same numbers are the same

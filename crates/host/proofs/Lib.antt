@@ -1,0 +1,3 @@
+pub mod Turning
+pub mod Every
+pub mod Promise

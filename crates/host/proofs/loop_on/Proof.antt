@@ -1,0 +1,64 @@
+-- `host::loop_on` meets its contract: what is left to run, after the steps that are counted, is the whole run. Assumes nothing.
+use mathlib.Core.Path.{_≡_, refl, _∙_}
+use Prim.Native.Nat.{_+_, _-_, _≤_, _<_}
+use native.Mathlib.Omega.{arith}
+use lib.ListN.{length}
+use denote.Ref.{now}
+use borrow.Author.Needs.{needs}
+use Rattle.cpu.specs.Step.{stepOf}
+use Rattle.cpu.proofs.Turns.{goes-on, stops}
+use Rattle.host.specs.Run.{counted, runOf}
+use Rattle.host.proofs.Turning.{goes, ends, spends, begins, replies}
+use Rattle.host.proofs.loop_on.Statement.{statement}
+use Rattle.host.proofs.loop_on.Tie as tie
+
+abbrev Inv-loop : tie.InvT-loop
+Inv-loop code arena₀ window budget note total regs₀ pc₀ steps₀ arena regs pc steps =
+    (counted steps (runOf code window (budget - steps) regs pc arena) ≡ runOf code window budget regs₀ pc₀ arena₀)
+    × (steps ≤ budget)
+    × (length arena ≡ length arena₀)
+
+abbrev μ-loop : tie.MeasureT-loop
+μ-loop code arena₀ window budget note total regs₀ pc₀ steps₀ arena regs pc steps = budget - steps
+
+loop-again : tie.Need-loop-again Inv-loop μ-loop
+loop-again c =
+    let a = c .before .before .before .before .before .before .before .before .before .before .before .before .before .before .args in
+    let l = c .before .before .before .before .before .before .before .before .before .loop in
+    let s = goes-on (stepOf (now (a .code)) (a .window) (l .regs) (l .pc) (l .arena)) _ _ _ _ (c .before .to .given .1) (c .before .before .before .before .before .turn .ensures) in
+    (goes (now (a .code)) (a .window) (a .budget) (l .steps) (l .regs) (l .pc) (l .arena) _ _ _ (c .before .before .before .before .before .before .before .before .loop-test .taken) s ∙ l .inv .0, omega arith, search needs)
+
+returns : tie.Need-returns Inv-loop μ-loop
+returns c =
+    let a = c .before .before .before .before .before .before .before .before .before .before .before .before .before .before .args in
+    let l = c .before .before .before .before .before .before .before .before .before .loop in
+    let s = stops (now (a .code)) (a .window) (l .regs) (l .pc) (l .arena) _ _ _ _ (c .before .f .given .1) (c .before .before .before .before .before .turn .ensures) in
+    replies (now (a .code)) (a .window) (a .session) (a .budget) (l .steps) _ _ _ _ _
+    (ends (now (a .code)) (a .window) (a .budget) (l .steps) (l .regs) (l .pc) (l .arena) _ _ _ _ (c .before .before .before .before .before .before .before .before .loop-test .taken) s ∙ l .inv .0)
+
+returns-2 : tie.Need-returns-2 Inv-loop μ-loop
+returns-2 c =
+    let a = c .before .before .before .before .before .before .args in
+    let l = c .before .loop in
+    replies (now (a .code)) (a .window) (a .session) (a .budget) (l .steps) _ _ _ _ _
+    (spends (now (a .code)) (a .window) (a .budget) (l .steps) (l .regs) (l .pc) (l .arena) (c .loop-test .left) ∙ l .inv .0)
+
+pub loop-on-spec : {M : Type 1} → statement M
+loop-on-spec =
+    tie.close
+    (tie.spec
+    Inv-loop
+    μ-loop
+    (λ c. let a = c .before .before .before .before .args in (begins (now (a .code)) (a .window) (a .budget) (a .session .regs) (a .session .pc) (now (a .arena)), omega arith, refl))
+    (λ c κs. omega arith)
+    (λ c. search needs)
+    (λ c. omega arith)
+    (λ c. omega arith)
+    loop-again
+    (λ c. search needs)
+    (λ c. omega arith)
+    (λ c. search needs)
+    returns
+    (λ c. omega arith)
+    (λ c. search needs)
+    returns-2)

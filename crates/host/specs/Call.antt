@@ -1,0 +1,35 @@
+-- The host's call: the refusals first, then the run. And what `host::run` promises, for all inputs.
+use Prim.Native.Nat.{ℕ, _+_, _≤_}
+use mathlib.Core.Path.{_≡_}
+use mathlib.Core.List.{List}
+use lib.ListN.{length}
+use Rattle.place.specs.declared.Window.{Window}
+use Rattle.session.specs.declared.Session.{Session}
+use Rattle.session.specs.declared.Outcome.{Outcome}
+use Rattle.session.specs.declared.Reply.{Reply}
+use Rattle.session.specs.Numbers.{numbersOf}
+use Rattle.refuse.specs.declared.Verdict.{Verdict}
+use Rattle.refuse.specs.Refusals.{verdictOf, runTests}
+use Rattle.host.specs.Run.{ranOf}
+
+-- "Refused runs .. return the session as it came, with step count 0, the arena unchanged"
+abbrev pub judged : Verdict → Session → List ℕ → Reply × List ℕ → Reply × List ℕ
+judged Verdict.Accepted s arena ran = ran
+judged (Verdict.Refused r) s arena ran = (record { outcome = Outcome.Refused r; steps = 0; session = s }, arena)
+
+unfoldable pub hostRunOf : List ℕ → Window → Session → ℕ → List ℕ → Reply × List ℕ
+hostRunOf code w s budget arena =
+    judged (verdictOf (runTests (length code) (length arena) w s budget)) s arena (ranOf code w s budget arena)
+
+-- The promise of `host::run`: of its inputs, its reply r and the arena afterwards
+pub record Runs (code : List ℕ) (w : Window) (s : Session) (budget : ℕ) (arena : List ℕ) (r : Reply) (after : List ℕ) : Type 0 where
+  -- outcome, step count and session
+  pub reply : r ≡ hostRunOf code w s budget arena .0
+  -- every byte of the arena
+  pub bytes : after ≡ hostRunOf code w s budget arena .1
+  -- the outcome by 01's numbers: the refusal's, or Ecode, subcode and what the stop carries
+  pub numbers : numbersOf (r .outcome) ≡ numbersOf (hostRunOf code w s budget arena .0 .outcome)
+  -- no more steps than the budget
+  pub within : r .steps ≤ budget
+  -- the total has grown by the steps
+  pub total : r .session .total ≡ s .total + r .steps

@@ -1,0 +1,29 @@
+-- 01, "The guest machine": "A session holds 32 general registers of 64 bits, the program counter (pc), the total of steps completed, and
+-- a support note: 16 bytes, or absent and then without content."
+use Prim.Native.Nat.{ℕ, zero, suc, _/_, _%_, _^_}
+use mathlib.Core.List.{List, [], _∷_, _++_}
+use lib.ListN.{replicate}
+use Rattle.session.specs.declared.Note.{Note}
+use Rattle.session.specs.declared.Session.{Session}
+
+-- "the fresh session (all zero, no note)"
+abbrev pub freshOf : Session
+freshOf = record { regs = replicate 32 0; pc = record { 0 = 0 }; total = 0; note = Note.Absent }
+
+-- the n lowest bytes of v, the lowest first ("All data is little-endian")
+unfoldable pub bytesLE : ℕ → ℕ → List ℕ
+bytesLE zero v = []
+bytesLE (suc n) v = v % 256 ∷ bytesLE n (v / 256)
+
+-- the bytes of a note
+abbrev pub noteBytes : Note → List ℕ
+noteBytes Note.Absent = []
+noteBytes (Note.Present low high) = bytesLE 8 low ++ bytesLE 8 high
+
+-- refusal 5: "budget over 1,000,000"
+abbrev pub budgetMax : ℕ
+budgetMax = 1000000
+
+-- refusal 6: "total plus budget exceeds 2^63"
+abbrev pub totalMax : ℕ
+totalMax = 2 ^ 63
