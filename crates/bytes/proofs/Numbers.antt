@@ -57,6 +57,21 @@ get-ext (suc n) a b s t h =
     let r : getLE n (suc a) s ≡ getLE n (suc b) t = get-ext n (suc a) (suc b) s t (λ k l. simp (suc-add, ← add-suc) (h (suc k) (omega arith))) in
     rw (z, r) refl
 
+-- the bytes that are written do not depend on the place
+pub put-ext : (n a b v : ℕ) (s t : List ℕ) → a + n ≤ length s → b + n ≤ length t → (k : ℕ) → k < n
+    → getD (putLE n a v s) (a + k) 0 ≡ getD (putLE n b v t) (b + k) 0
+unfolding putLE
+put-ext zero a b v s t p q k h = absurd (omega arith)
+put-ext (suc n) a b v s t p q zero h = first a s p ∙ sym (first b t q)
+  where
+    first : (c : ℕ) (u : List ℕ) → c + suc n ≤ length u → getD (putLE n (suc c) (v / 256) (set u c (v % 256))) (c + 0) 0 ≡ v % 256
+    first c u l =
+        rw add-zero
+        (put-below n (suc c) (v / 256) (set u c (v % 256)) c (omega arith) ∙ getD-set-same u c (v % 256) 0 (omega arith))
+put-ext (suc n) a b v s t p q (suc k) h =
+    simp (add-suc, ← suc-add)
+    (put-ext n (suc a) (suc b) (v / 256) (set s a (v % 256)) (set t b (v % 256)) (rw length-set (omega arith)) (rw length-set (omega arith)) k (omega arith))
+
 -- what is read after a write at the same place
 pub get-put : (n at v : ℕ) (s : List ℕ) → at + n ≤ length s → getLE n at (putLE n at v s) ≡ v % 256 ^ n
 unfolding getLE putLE

@@ -90,12 +90,12 @@ case word given len budget ecode subcode carried steps gr pc =
       len = len;
       budget = budget;
       want =
-      record {
-        numbers = record { refused = 0; stop = toldOf ecode subcode carried };
-        steps = steps;
-        after = session gr pc steps;
-        bytes = arena;
-      };
+          record {
+            numbers = record { refused = 0; stop = toldOf ecode subcode carried };
+            steps = steps;
+            after = session gr pc steps;
+            bytes = arena;
+          };
     }
 
 -- one step of a budget of 1, which is then spent

@@ -1,6 +1,7 @@
 -- What the code's comparison says on whole numbers, and what the window check answers for.
 use mathlib.Core.Path.{_≡_, refl, sym, ap, subst, _∙_}
 use mathlib.Core.Bool.{Bool, true, false, cond, _&&_}
+use mathlib.Core.Logic.{_⊎_, inl, inr}
 use Prim.Native.Nat.{ℕ, _+_, _-_, _%_, _^_, _≤_, _<_}
 use native.Mathlib.Omega.{arith}
 use lib.Dec.{T, eqb, leb}
@@ -15,7 +16,7 @@ use Rattle.place.specs.declared.Width.{Width}
 use Rattle.place.specs.declared.Width.the-variants.{Byte, Half, Word, Double}
 use Rattle.place.specs.declared.Located.{Located}
 use Rattle.place.specs.declared.FetchPlace.{FetchPlace}
-use Rattle.place.specs.Place.{codeBase, windowBase, bytesOf, withinOf, locateOf, fetchPlaceOf}
+use Rattle.place.specs.Place.{Inside, codeBase, windowBase, bytesOf, withinOf, locateOf, fetchPlaceOf}
 
 pub bytes-small : (k : Width) → (0 < bytesOf k) × (bytesOf k ≤ 8)
 bytes-small Byte = omega arith
@@ -60,6 +61,15 @@ within-true base len a n e = go (leb base a) (leb (a + n) (base + len)) refl ref
     go true true f g h = (leb-true _ _ f, leb-true _ _ g)
     go true false f g h = absurd (subst T (sym h) tt)
     go false q f g h = absurd (subst T (sym h) tt)
+
+-- what is not in the window lies below it or above
+pub beside : (w : Window) (i : ℕ) → (Inside w i → ⊥) → (i < w .start .0) ⊎ (w .start .0 + w .len ≤ i)
+beside w i out = go (leb (w .start .0) i) (leb (w .start .0 + w .len) i) refl refl
+  where
+    go : (p q : Bool) → leb (w .start .0) i ≡ p → leb (w .start .0 + w .len) i ≡ q → (i < w .start .0) ⊎ (w .start .0 + w .len ≤ i)
+    go false q f g = inl (leb-false _ _ f)
+    go true true f g = inr (leb-true _ _ g)
+    go true false f g = absurd (out (leb-true _ _ f, leb-false _ _ g))
 
 -- what the window check finds lies in the window
 pub located-inside : (w : Window) (a : GuestAddr) (k : Width) (o : ArenaOffset) → locateOf w a k ≡ Located.At o

@@ -1,6 +1,6 @@
 -- The house map, and where the bytes at a guest address stand (01, "The guest machine" and "Stops"). Everything is on whole
 -- numbers: no sum here wraps but `plusOf`.
-use Prim.Native.Nat.{ℕ, _+_, _-_, _%_}
+use Prim.Native.Nat.{ℕ, _+_, _-_, _%_, _≤_, _<_}
 use mathlib.Core.Bool.{Bool, cond, _&&_}
 use lib.Dec.{leb, eqb}
 use Rattle.word.specs.Word.{addD}
@@ -24,6 +24,10 @@ windowBase = 0x40000000
 
 abbrev pub windowMax : ℕ
 windowMax = 65536
+
+-- the arena's byte i is one of the window's
+abbrev pub Inside : Window → ℕ → Type 0
+Inside w i = (w .start .0 ≤ i) × (i < w .start .0 + w .len)
 
 -- byte, half, word and double (manual 1.4)
 abbrev pub bytesOf : Width → ℕ

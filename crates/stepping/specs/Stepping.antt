@@ -3,11 +3,10 @@ use Prim.Native.Nat.{ℕ, _+_, _-_, _%_, _≤_, _<_}
 use mathlib.Core.Path.{_≡_}
 use mathlib.Core.Bool.{Bool, true, false}
 use mathlib.Core.List.{List}
-use mathlib.Core.Logic.{_⊎_}
 use lib.ListN.{length, getD}
 use Rattle.place.specs.declared.GuestAddr.{GuestAddr}
 use Rattle.place.specs.declared.Window.{Window}
-use Rattle.place.specs.Place.{codeBase}
+use Rattle.place.specs.Place.{Inside, codeBase}
 use Rattle.bytes.specs.Bytes.{getLE}
 use Rattle.isa.specs.declared.Decoded.{Decoded}
 use Rattle.isa.specs.declared.Instruction.{Instruction}
@@ -36,13 +35,9 @@ ZeroStays = EveryStep (λ code w gr pc arena s. reg gr 0 ≡ 0 → reg (s .0 .re
 abbrev pub LengthStays : Type 0
 LengthStays = EveryStep (λ code w gr pc arena s. length (s .1) ≡ length arena)
 
--- the arena's byte i is none of the window's
-abbrev pub Outside : Window → ℕ → Type 0
-Outside w i = (i < w .start .0) ⊎ (w .start .0 + w .len ≤ i)
-
 -- no byte outside the window changes
 abbrev pub OutsideStays : Type 0
-OutsideStays = EveryStep (λ code w gr pc arena s. (i : ℕ) → Outside w i → getD (s .1) i 0 ≡ getD arena i 0)
+OutsideStays = EveryStep (λ code w gr pc arena s. (i : ℕ) → (Inside w i → ⊥) → getD (s .1) i 0 ≡ getD arena i 0)
 
 -- the pc is a multiple of 4 inside code
 abbrev pub InCode : List ℕ → GuestAddr → Type 0

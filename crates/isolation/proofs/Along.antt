@@ -1,0 +1,80 @@
+-- Isolation along histories: an own act comes to the same on both sides, and another session's run leaves the window as it was.
+use mathlib.Core.Path.{_≡_, refl, sym, ap, subst, _∙_}
+use mathlib.Core.List.{List, [], _∷_}
+use Prim.Native.Nat.{ℕ, _+_, _≤_, _<_}
+use native.Mathlib.Omega.{arith}
+use lib.ListN.{length, getD}
+use Rattle.place.specs.declared.Window.{Window}
+use Rattle.session.specs.declared.Session.{Session}
+use Rattle.session.specs.declared.Reply.{Reply}
+use Rattle.isolation.specs.Windows.{OutsideUnchanged, Alike, entry}
+use Rattle.isolation.specs.Histories.{Act, run, answer, Foreign, Event, own, other, acted, afterOther, entries, ownActs, ShareNoByte, OthersApart, AllAlike, HistoriesIsolated}
+use Rattle.isolation.proofs.Twins.{Twins, twins}
+use Rattle.isolation.proofs.Isolated.{unchanged, outside-call, same-call, alike}
+
+-- an own act changes nothing outside the window
+outside-act : (a : Act) (w : Window) (s : Session) (arena : List ℕ) → OutsideUnchanged w arena (acted a w s arena .1)
+outside-act (run code budget) w s arena = outside-call code w s budget arena
+outside-act (answer code value) w s arena = unchanged w arena
+
+module _ (v w : Window) where
+  same-act : (a : Act) (s : Session) (A B : List ℕ) → Twins v A w B → (acted a v s A .0 ≡ acted a w s B .0) × Twins v (acted a v s A .1) w (acted a w s B .1)
+  same-act (run code budget) s A B t = same-call code v w s budget A B t
+  same-act (answer code value) s A B t = (refl, t)
+
+  -- another session's run on one side, and on the other
+  other-A : (f : Foreign) (A B : List ℕ) → ShareNoByte v (f .window) → Twins v A w B → Twins v (afterOther f A) w B
+  other-A f A B apart t =
+      let o = outside-call (f .code) (f .window) (f .session) (f .budget) A in
+      record {
+        fits-A = rw (o .as-long) (t .fits-A);
+        fits-B = t .fits-B;
+        lengths = t .lengths;
+        byte = λ k l. o .bytes (v .start .0 + k) (apart (v .start .0 + k) (omega arith, omega arith)) ∙ t .byte k l;
+      }
+
+  other-B : (f : Foreign) (A B : List ℕ) → ShareNoByte w (f .window) → Twins v A w B → Twins v A w (afterOther f B)
+  other-B f A B apart t =
+      let o = outside-call (f .code) (f .window) (f .session) (f .budget) B in
+      let same = t .lengths in
+      record {
+        fits-A = t .fits-A;
+        fits-B = rw (o .as-long) (t .fits-B);
+        lengths = t .lengths;
+        byte = λ k l. t .byte k l ∙ sym (o .bytes (w .start .0 + k) (apart (w .start .0 + k) (omega arith, omega arith)));
+      }
+
+  -- what is to be shown of two histories
+  abbrev Goes : List Event → List Event → Type 0
+  Goes g h = (s : Session) (A B : List ℕ) → Twins v A w B → OthersApart v g → OthersApart w h → ownActs g ≡ ownActs h → AllAlike v w (entries v g s A) (entries w h s B)
+
+  no-acts : (h : List Event) → Goes [] h
+  unfolding entries ownActs OthersApart AllAlike
+  no-acts [] s A B t p q e = tt
+  no-acts (own b ∷ h) s A B t p q e = let z : _≡_ {A = ℕ} 0 1 = cc in absurd (omega arith)
+  no-acts (other f ∷ h) s A B t p q e = no-acts h s A (afterOther f B) (other-B f A B (q .0) t) p (q .1) e
+
+  -- an own act stands next on the first side: the second comes to it after others' runs
+  next-act : (a : Act) (g : List Event) → ((h : List Event) → Goes g h) → (h : List Event) → Goes (own a ∷ g) h
+  unfolding entries ownActs OthersApart AllAlike
+  next-act a g rest [] s A B t p q e = let z : _≡_ {A = ℕ} 0 1 = cc in absurd (omega arith)
+  next-act a g rest (other f ∷ h) s A B t p q e = next-act a g rest h s A (afterOther f B) (other-B f A B (q .0) t) p (q .1) e
+  next-act a g rest (own b ∷ h) s A B t p q e =
+      let ab : a ≡ b = cc in
+      let later : ownActs g ≡ ownActs h = cc in
+      let x = same-act a s A B t in
+      let both : (acted a v s A .0 ≡ acted b w s B .0) × Twins v (acted a v s A .1) w (acted b w s B .1) = rw (← ab) x in
+      let r = acted b w s B .0 .session in
+      let i = rest h r (acted a v s A .1) (acted b w s B .1) (both .1) p q later in (
+        alike v w A B (acted a v s A) (acted b w s B) both (outside-act a v s A) (outside-act b w s B),
+        subst (λ (y : Session). AllAlike v w (entries v g y (acted a v s A .1)) (entries w h r (acted b w s B .1))) (sym (ap (λ (y : Reply). y .session) (both .0))) i,
+      )
+
+  along : (g h : List Event) → Goes g h
+  unfolding entries ownActs OthersApart AllAlike
+  along [] h = no-acts h
+  along (own a ∷ g) h = next-act a g (along g) h
+  along (other f ∷ g) h = λ s A B t p q e. along g h s (afterOther f A) B (other-A f A B (p .0) t) (p .1) q e
+
+pub histories-isolated : HistoriesIsolated
+histories-isolated v A w B g h s same = along v w g h s A B (twins v A w B same)

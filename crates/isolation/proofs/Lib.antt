@@ -1,0 +1,4 @@
+pub mod Twins
+pub mod Steps
+pub mod Isolated
+pub mod Along

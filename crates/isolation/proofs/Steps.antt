@@ -1,0 +1,125 @@
+-- A step in two arenas with equal windows: it ends alike, and the windows stay equal.
+use mathlib.Core.Path.{_≡_, refl, sym, ap, subst, _∙_}
+use mathlib.Core.Bool.{Bool, true, false, cond}
+use mathlib.Core.List.{List}
+use Prim.Native.Nat.{ℕ, _+_, _-_, _%_, _≤_, _<_}
+use native.Mathlib.Nat.{add-assoc}
+use native.Mathlib.Omega.{arith}
+use lib.Dec.{eqb, leb}
+use borrow.Author.Tests.{leb-true, leb-false}
+use lib.ListN.{length, getD}
+use Rattle.place.specs.declared.GuestAddr.{GuestAddr}
+use Rattle.place.specs.declared.Width.{Width}
+use Rattle.place.specs.declared.Window.{Window}
+use Rattle.place.specs.Place.{windowBase, bytesOf, withinOf, locateOf}
+use Rattle.place.proofs.Reach.{within-true}
+use Rattle.bytes.specs.Bytes.{putLE}
+use Rattle.bytes.proofs.Numbers.{length-put, put-below, put-above, put-ext, get-ext}
+use Rattle.isa.specs.declared.Decoded.{Decoded}
+use Rattle.isa.specs.declared.Load.{Load}
+use Rattle.opcode.specs.Decode.{decodeOf}
+use Rattle.fault.specs.declared.Fault.{Fault}
+use Rattle.memory.specs.Memory.{loadWidthOf, extendedOf, loadedOf, storedOf}
+use Rattle.effect.specs.declared.Effect.{Effect}
+use Rattle.effect.specs.Effect.{effectOf}
+use Rattle.cpu.specs.declared.Access.{Access}
+use Rattle.cpu.specs.declared.Fetched.{Fetched}
+use Rattle.cpu.specs.declared.Stepped.{Stepped}
+use Rattle.cpu.specs.Step.{accessOf, loadOf, storeOf, applyOf, fetchOf, stepDecoded, stepFetched, stepOf}
+use Rattle.isolation.proofs.Twins.{Twins}
+
+module _ (v w : Window) (same : v .len ≡ w .len) where
+  -- an access in two windows of one length: denied alike, or let through to the same place in each
+  pub data Both (a : GuestAddr) (k : Width) : Type 0 where
+    denied : (f : Fault) → accessOf v a k ≡ Access.Denied f → accessOf w a k ≡ Access.Denied f → Both a k
+    reached : (d : ℕ) → d + bytesOf k ≤ v .len → accessOf v a k ≡ Access.At (record { 0 = v .start .0 + d })
+        → accessOf w a k ≡ Access.At (record { 0 = w .start .0 + d }) → Both a k
+
+  pub both : (a : GuestAddr) (k : Width) → Both a k
+  unfolding accessOf locateOf
+  both a k = go (eqb (a .0 % bytesOf k) 0) (withinOf windowBase (v .len) (a .0) (bytesOf k)) refl refl
+    where
+      in-w : {t : Bool} → withinOf windowBase (v .len) (a .0) (bytesOf k) ≡ t → withinOf windowBase (w .len) (a .0) (bytesOf k) ≡ t
+      in-w q = ap (λ (n : ℕ). withinOf windowBase n (a .0) (bytesOf k)) (sym same) ∙ q
+
+      go : (s t : Bool) → eqb (a .0 % bytesOf k) 0 ≡ s → withinOf windowBase (v .len) (a .0) (bytesOf k) ≡ t → Both a k
+      go false t p q = denied (Fault.Ale a) (rw p refl) (rw p refl)
+      go true false p q = denied (Fault.Adem a) (rw (p, q) refl) (rw (p, in-w q) refl)
+      go true true p q =
+          let i = within-true windowBase (v .len) (a .0) (bytesOf k) q in
+          reached (a .0 - windowBase) (omega arith) (rw (p, q) refl) (rw (p, in-w q) refl)
+
+module _ (v w : Window) where
+  -- what is loaded is the same
+  loads : (A B : List ℕ) → Twins v A w B → (kind : Load) (d : ℕ) → d + bytesOf (loadWidthOf kind) ≤ v .len
+      → loadedOf kind (record { 0 = v .start .0 + d }) A ≡ loadedOf kind (record { 0 = w .start .0 + d }) B
+  unfolding loadedOf
+  loads A B t kind d h =
+      ap (extendedOf kind)
+      (get-ext (bytesOf (loadWidthOf kind)) (v .start .0 + d) (w .start .0 + d) A B (λ k l. rw (add-assoc, add-assoc) (t .byte (d + k) (omega arith))))
+
+  -- what is stored is the same
+  stores : (A B : List ℕ) → Twins v A w B → (k : Width) (value d : ℕ) → d + bytesOf k ≤ v .len
+      → Twins v (storedOf k (record { 0 = v .start .0 + d }) value A) w (storedOf k (record { 0 = w .start .0 + d }) value B)
+  unfolding storedOf
+  stores A B t k value d h =
+      record {
+        fits-A = rw (length-put (bytesOf k) (v .start .0 + d) value A) (t .fits-A);
+        fits-B = rw (length-put (bytesOf k) (w .start .0 + d) value B) (t .fits-B);
+        lengths = t .lengths;
+        byte = λ i l. at i l (leb d i) (leb (d + bytesOf k) i) refl refl;
+      }
+    where
+      at : (i : ℕ) → i < v .len → (p q : Bool) → leb d i ≡ p → leb (d + bytesOf k) i ≡ q
+          → getD (putLE (bytesOf k) (v .start .0 + d) value A) (v .start .0 + i) 0 ≡ getD (putLE (bytesOf k) (w .start .0 + d) value B) (w .start .0 + i) 0
+      at i l false q e f =
+          let m = leb-false d i e in
+          put-below (bytesOf k) (v .start .0 + d) value A (v .start .0 + i) (omega arith) ∙ t .byte i l
+          ∙ sym (put-below (bytesOf k) (w .start .0 + d) value B (w .start .0 + i) (omega arith))
+      at i l true true e f =
+          let m = leb-true (d + bytesOf k) i f in
+          put-above (bytesOf k) (v .start .0 + d) value A (v .start .0 + i) (omega arith) ∙ t .byte i l
+          ∙ sym (put-above (bytesOf k) (w .start .0 + d) value B (w .start .0 + i) (omega arith))
+      at i l true false e f =
+          let m = leb-true d i e in
+          let n = leb-false (d + bytesOf k) i f in
+          let x : v .start .0 + i ≡ v .start .0 + d + (i - d) = omega arith in
+          let y : w .start .0 + i ≡ w .start .0 + d + (i - d) = omega arith in
+          let fa = t .fits-A in
+          let fb = t .fits-B in
+          let s = t .lengths in
+          rw (x, y) (put-ext (bytesOf k) (v .start .0 + d) (w .start .0 + d) value A B (omega arith) (omega arith) (i - d) (omega arith))
+
+  -- how a step ended, and the windows afterwards
+  abbrev pub SameStep : Stepped × List ℕ → Stepped × List ℕ → Type 0
+  SameStep x y = (x .0 ≡ y .0) × Twins v (x .1) w (y .1)
+
+  module _ (gr : List ℕ) (pc : GuestAddr) (A B : List ℕ) (t : Twins v A w B) where
+    of-effect : (e : Effect) → SameStep (applyOf v e gr pc A) (applyOf w e gr pc B)
+    unfolding applyOf
+    of-effect (Effect.Write rd value to) = (refl, t)
+    of-effect (Effect.Jump to) = (refl, t)
+    of-effect (Effect.Load kind rd a) = load (both v w (t .lengths) a (loadWidthOf kind))
+      where
+        load : Both v w (t .lengths) a (loadWidthOf kind)
+            → SameStep (loadOf (accessOf v a (loadWidthOf kind)) kind rd gr pc A) (loadOf (accessOf w a (loadWidthOf kind)) kind rd gr pc B)
+        load (denied f p q) = rw (p, q) (refl, t)
+        load (reached d h p q) = rw (p, q) (rw (loads A B t kind d h) refl, t)
+    of-effect (Effect.Store k value a) = store (both v w (t .lengths) a k)
+      where
+        store : Both v w (t .lengths) a k → SameStep (storeOf (accessOf v a k) k value gr pc A) (storeOf (accessOf w a k) k value gr pc B)
+        store (denied f p q) = rw (p, q) (refl, t)
+        store (reached d h p q) = rw (p, q) (refl, stores A B t k value d h)
+    of-effect (Effect.Raise f) = (refl, t)
+
+    of-decoded : (d : Decoded) (word : ℕ) → SameStep (stepDecoded d word v gr pc A) (stepDecoded d word w gr pc B)
+    of-decoded (Decoded.Known i) word = of-effect (effectOf i gr pc)
+    of-decoded Decoded.Unknown word = (refl, t)
+
+    of-fetched : (x : Fetched) → SameStep (stepFetched x v gr pc A) (stepFetched x w gr pc B)
+    of-fetched (Fetched.Word word) = of-decoded (decodeOf word) word
+    of-fetched Fetched.Bad = (refl, t)
+
+    pub same-step : (code : List ℕ) → SameStep (stepOf code v gr pc A) (stepOf code w gr pc B)
+    unfolding stepOf
+    same-step code = of-fetched (fetchOf code pc)

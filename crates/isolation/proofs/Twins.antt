@@ -1,0 +1,40 @@
+-- Two windows with equal bytes, byte by byte: the form that the proofs go along, and its way to and from the form that the statements have.
+use mathlib.Core.Path.{_≡_, refl, sym, ap, subst, _∙_}
+use mathlib.Core.List.{List}
+use Prim.Native.Nat.{ℕ, _+_, _-_, _≤_, _<_}
+use native.Mathlib.Omega.{arith}
+use lib.ListN.{length, getD, take, drop, length-drop}
+use lib.Seq.{length-take-le, getD-take, getD-drop, ext-getD}
+use Rattle.place.specs.declared.Window.{Window}
+use Rattle.isolation.specs.Windows.{Fits, bytesIn, SameWindow}
+
+pub record Twins (v : Window) (A : List ℕ) (w : Window) (B : List ℕ) : Type 0 where
+  pub fits-A : Fits v A
+  pub fits-B : Fits w B
+  pub lengths : v .len ≡ w .len
+  pub byte : (k : ℕ) → k < v .len → getD A (v .start .0 + k) 0 ≡ getD B (w .start .0 + k) 0
+
+-- a byte of the window is the arena's
+in-place : (w : Window) (arena : List ℕ) (k : ℕ) → k < w .len → getD (bytesIn w arena) k 0 ≡ getD arena (w .start .0 + k) 0
+in-place w arena k h = getD-take (w .len) (drop (w .start .0) arena) k 0 h ∙ getD-drop (w .start .0) arena k 0
+
+window-length : (w : Window) (arena : List ℕ) → Fits w arena → length (bytesIn w arena) ≡ w .len
+window-length w arena f = length-take-le (w .len) (drop (w .start .0) arena) (rw length-drop (omega arith))
+
+pub twins : (v : Window) (A : List ℕ) (w : Window) (B : List ℕ) → SameWindow v A w B → Twins v A w B
+twins v A w B s =
+    record {
+      fits-A = s .fits-A;
+      fits-B = s .fits-B;
+      lengths = s .lengths;
+      byte =
+          λ k h. sym (in-place v A k h) ∙ ap (λ (x : List ℕ). getD x k 0) (s .bytes) ∙ in-place w B k (subst (λ (n : ℕ). k < n) (s .lengths) h);
+    }
+
+pub same-bytes : (v : Window) (A : List ℕ) (w : Window) (B : List ℕ) → Twins v A w B → bytesIn v A ≡ bytesIn w B
+same-bytes v A w B t =
+    let a = window-length v A (t .fits-A) in
+    ext-getD 0 (bytesIn v A) (bytesIn w B) (a ∙ t .lengths ∙ sym (window-length w B (t .fits-B))) (λ k h. at k (subst (λ (n : ℕ). k < n) a h))
+  where
+    at : (k : ℕ) → k < v .len → getD (bytesIn v A) k 0 ≡ getD (bytesIn w B) k 0
+    at k h = in-place v A k h ∙ t .byte k h ∙ sym (in-place w B k (subst (λ (n : ℕ). k < n) (t .lengths) h))

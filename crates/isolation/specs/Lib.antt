@@ -1,0 +1,3 @@
+pub mod Windows
+pub mod OneRun
+pub mod Histories
