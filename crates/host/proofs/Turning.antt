@@ -1,7 +1,7 @@
 -- The turns of a run: one step of it, in the words of a step's promise, and what is left when it ends.
-use mathlib.Core.Path.{_≡_, refl, sym, ap, _∙_}
+use mathlib.Core.Path.{_≡_, refl, sym, ap}
 use mathlib.Core.List.{List}
-use Prim.Native.Nat.{ℕ, zero, suc, _+_, _-_, _≤_, _<_}
+use Prim.Native.Nat.{ℕ, suc, _+_, _-_, _≤_, _<_}
 use native.Mathlib.Nat.{zero-add, add-zero, add-assoc, sub-zero}
 use native.Mathlib.Omega.{arith}
 use Rattle.place.specs.declared.GuestAddr.{GuestAddr}
@@ -13,8 +13,7 @@ use Rattle.cpu.specs.Step.{done, raised, Steps, stepOf}
 use Rattle.session.specs.declared.Session.{Session}
 use Rattle.session.specs.declared.Stop.{Stop}
 use Rattle.session.specs.declared.Outcome.{Outcome}
-use Rattle.session.specs.declared.Reply.{Reply}
-use Rattle.host.specs.Run.{Went, stopped, counted, runOf, ranOf, Leaves}
+use Rattle.host.specs.Run.{stopped, counted, runOf, ranOf, Leaves}
 
 -- a pair from its parts
 paired : {A B : Type 0} {x y : A} {a b : B} → x ≡ y → a ≡ b → _≡_ {A = A × B} (x, a) (y, b)

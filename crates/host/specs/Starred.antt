@@ -6,8 +6,7 @@
 use Prim.Native.Nat.{ℕ, _+_, _/_, _%_}
 use mathlib.Core.Path.{_≡_, refl}
 use mathlib.Core.List.{List, [], _∷_, map}
-use lib.ListN.{length, set, replicate}
-use Rattle.place.specs.declared.Window.{Window}
+use lib.ListN.{set, replicate}
 use Rattle.place.specs.Place.{locateOf, fetchPlaceOf}
 use Rattle.bytes.specs.Bytes.{getLE}
 use Rattle.alu.specs.Alu.{aluOf}

@@ -1,5 +1,4 @@
 // The host's call that runs a session. All tests come first; then the loop.
-ghost use mathlib.Core.Path.{_≡_};
 ghost use Prim.Native.Nat.{_+_, _^_, _≤_};
 ghost use lib.ListN.{length};
 ghost use Rattle.host.specs.Run.{ranOf, Leaves};

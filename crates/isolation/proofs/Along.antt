@@ -1,13 +1,12 @@
 -- Isolation along histories: an own act comes to the same on both sides, and another session's run leaves the window as it was.
 use mathlib.Core.Path.{_≡_, refl, sym, ap, subst, _∙_}
 use mathlib.Core.List.{List, [], _∷_}
-use Prim.Native.Nat.{ℕ, _+_, _≤_, _<_}
+use Prim.Native.Nat.{ℕ, _+_}
 use native.Mathlib.Omega.{arith}
-use lib.ListN.{length, getD}
 use Rattle.place.specs.declared.Window.{Window}
 use Rattle.session.specs.declared.Session.{Session}
 use Rattle.session.specs.declared.Reply.{Reply}
-use Rattle.isolation.specs.Windows.{OutsideUnchanged, Alike, entry}
+use Rattle.isolation.specs.Windows.{OutsideUnchanged}
 use Rattle.isolation.specs.Histories.{Act, run, answer, Foreign, Event, own, other, acted, afterOther, entries, ownActs, ShareNoByte, OthersApart, AllAlike, HistoriesIsolated}
 use Rattle.isolation.proofs.Twins.{Twins, twins}
 use Rattle.isolation.proofs.Isolated.{unchanged, outside-call, same-call, alike}

@@ -1,9 +1,9 @@
 -- A run in two arenas with equal windows, and the host's call: both come to the same, and change nothing outside the window.
 use mathlib.Core.Path.{_≡_, refl, sym, ap, subst, _∙_}
-use mathlib.Core.Bool.{Bool, false}
+use mathlib.Core.Bool.{false}
 use mathlib.Core.List.{List}
-use Prim.Native.Nat.{ℕ, zero, suc, _+_, _≤_}
-use lib.ListN.{length, getD}
+use Prim.Native.Nat.{ℕ, suc, _+_}
+use lib.ListN.{length}
 use borrow.Author.Tests.{le-ltb}
 use Rattle.place.specs.declared.GuestAddr.{GuestAddr}
 use Rattle.place.specs.declared.Window.{Window}
@@ -25,7 +25,7 @@ use Rattle.host.proofs.Every.{of-run}
 use Rattle.isolation.specs.Windows.{Fits, OutsideUnchanged, entry, Alike}
 use Rattle.isolation.specs.OneRun.{RunIsolated, CallIsolated}
 use Rattle.isolation.proofs.Twins.{Twins, twins, same-bytes}
-use Rattle.isolation.proofs.Steps.{SameStep, same-step}
+use Rattle.isolation.proofs.Steps.{same-step}
 
 -- ---- one arena: nothing outside the window changes
 

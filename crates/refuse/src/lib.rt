@@ -1,7 +1,6 @@
 // The tests that a run and an answer make before anything changes. Each decides on whole numbers: no sum here can wrap.
 ghost use mathlib.Core.Path.{_≡_};
-ghost use Prim.Native.Nat.{_^_, _<_};
-ghost use lib.ListN.{length};
+ghost use Prim.Native.Nat.{_<_};
 ghost use Rattle.refuse.specs.Refusals.{codeDue, windowDue, placeDue, zeroDue, budgetDue, totalDue, verdictOf, runTests};
 use place::CodeOffset;
 use place::Window;

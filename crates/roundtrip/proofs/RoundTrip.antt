@@ -13,11 +13,10 @@ use Rattle.isa.specs.Format.{Part, opcode, rd, rj, rk, imm, hint, lsb, msb, pla
 use Rattle.opcode.specs.Table.{Row}
 use Rattle.isa.specs.Operands.{operands, fieldOperands, hintOperands}
 use Rattle.opcode.specs.Families.{Family, Entry, entry, entries, allEntries, families, table, alu, product, division, shift, shiftImmediate, immediate, upper, alsl, bytepick, unary, field, branch, zeroBranch, jump, load, loadIndexed, store, storeIndexed, pointer, preload, barrier, trap, assert, config}
-use Rattle.opcode.specs.Decode.{has, decodeIn, decodeOf, Decodes}
+use Rattle.opcode.specs.Decode.{has, decodeIn, decodeOf}
 use Rattle.roundtrip.specs.Encode.{ofOperands, ofFieldOperands, ofHintOperands, operandsOf, rowOf, withCode, partsOf, encodeOf, InRange}
 use Rattle.isa.specs.declared.Instruction.{Instruction}
 use Rattle.isa.specs.declared.Instruction.the-variants as instruction
-use Rattle.isa.specs.declared.Decoded.{Decoded}
 use Rattle.isa.specs.declared.Decoded.the-variants.{Known}
 use Rattle.isa.proofs.Places.{joins, agree, read-back, gather-lt, and-l, and-r}
 use Rattle.opcode.proofs.Narrow.{every, both-l}
@@ -465,7 +464,3 @@ decoded (instruction.Barrier op o) v = decoded-at 20 tt barrier-kept op (ofOpera
 decoded (instruction.Trap op o) v = decoded-at 21 tt trap-kept op (ofOperands o) (v .0) (v .1)
 decoded (instruction.Assert op o) v = decoded-at 22 tt assert-kept op (ofOperands o) (v .0) (v .1)
 decoded (instruction.Config op o) v = decoded-at 23 tt config-kept op (ofOperands o) (v .0) (v .1)
-
--- the promise of `decode` has one answer
-pub unique : (w : ℕ) (r s : Decoded) → Decodes w r → Decodes w s → r ≡ s
-unique w r s p q = p ∙ sym q

@@ -12,7 +12,7 @@ use Rattle.opcode.specs.Families.{table}
 use Rattle.opcode.proofs.Narrow.{leaf}
 use Rattle.roundtrip.proofs.RoundTrip.{encoded}
 use Rattle.service.specs.Answer.{isSyscall}
-use Rattle.service.specs.Syscall.{AgreesWithDecode, EveryWordAgrees}
+use Rattle.service.specs.Syscall.{EveryWordAgrees}
 
 and-true : (b : Bool) → (b && true) ≡ b
 and-true true = refl

@@ -1,5 +1,5 @@
 -- What holds of every step, for all code, registers, pc, windows and arenas (01, "Stops"). The proofs are in proofs/.
-use Prim.Native.Nat.{ℕ, _+_, _-_, _%_, _≤_, _<_}
+use Prim.Native.Nat.{ℕ, _+_, _-_, _%_, _≤_}
 use mathlib.Core.Path.{_≡_}
 use mathlib.Core.Bool.{Bool, true, false}
 use mathlib.Core.List.{List}

@@ -1,5 +1,4 @@
 -- `refuse::total_due` meets its contract. Assumes nothing.
-use Prim.Native.Nat.{_^_}
 use Rattle.refuse.specs.Refusals.{totalDue}
 use Rattle.refuse.proofs.Room.{left-over, over}
 use Rattle.refuse.proofs.total_due.Statement.{statement}

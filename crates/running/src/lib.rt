@@ -1,0 +1,1 @@
+// What a run counts. There is no code here: see specs/ and proofs/.

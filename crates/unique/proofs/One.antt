@@ -1,0 +1,19 @@
+-- One lemma, and a citation for each call.
+use mathlib.Core.Path.{_≡_, refl, sym, _∙_}
+use Rattle.opcode.specs.Decode.{decodeOf}
+use Rattle.host.specs.Call.{hostRunOf}
+use Rattle.service.specs.Answer.{hostAnswerOf}
+use Rattle.unique.specs.Unique.{AtMostOne, RunUnique, AnswerUnique, DecodeUnique}
+
+-- what a promise says to be the definition's answer is one answer
+determined : {A : Type 0} {P : A → Type 0} (d : A) → ((x : A) → P x → x ≡ d) → AtMostOne P
+determined d same x y p q = same x p ∙ sym (same y q)
+
+pub run-unique : RunUnique
+run-unique code w s budget arena = determined (hostRunOf code w s budget arena) (λ x p. rw (← p .reply, ← p .bytes) refl)
+
+pub answer-unique : AnswerUnique
+answer-unique code s value = determined (hostAnswerOf code s value) (λ r p. p .reply)
+
+pub decode-unique : DecodeUnique
+decode-unique word = determined (decodeOf word) (λ d p. p)
