@@ -1,8 +1,8 @@
 // The host's call that runs a session. All tests come first; then the loop.
 ghost use Prim.Native.Nat.{_+_, _^_, _≤_};
 ghost use lib.ListN.{length};
-ghost use Rattle.host.specs.Run.{ranOf, Leaves};
-ghost use Rattle.host.specs.Call.{Runs};
+ghost use Rattle.running.specs.Run.{ranOf, Leaves};
+ghost use Rattle.running.specs.Call.{Runs};
 use cpu::Turned;
 use place::Window;
 use refuse::Verdict;

@@ -18,10 +18,10 @@ use Rattle.session.specs.declared.Stop.{Stop}
 use Rattle.session.specs.declared.Reply.{Reply}
 use Rattle.refuse.specs.declared.Verdict.{Verdict}
 use Rattle.refuse.specs.Refusals.{windowDue, placeDue, verdictOf, runTests}
-use Rattle.host.specs.Run.{Went, stopped, counted, replyOf, runOf, ranOf}
-use Rattle.host.specs.Call.{judged, hostRunOf}
-use Rattle.host.proofs.Turning.{run-none, run-done, run-raised}
-use Rattle.host.proofs.Every.{of-run}
+use Rattle.running.specs.Run.{Went, stopped, counted, replyOf, runOf, ranOf}
+use Rattle.running.specs.Call.{judged, hostRunOf}
+use Rattle.running.proofs.Turning.{run-none, run-done, run-raised}
+use Rattle.running.proofs.Every.{of-run}
 use Rattle.isolation.specs.Windows.{Fits, OutsideUnchanged, entry, Alike}
 use Rattle.isolation.specs.OneRun.{RunIsolated, CallIsolated}
 use Rattle.isolation.proofs.Twins.{Twins, twins, same-bytes}

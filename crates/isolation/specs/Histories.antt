@@ -7,7 +7,7 @@ use Rattle.place.specs.declared.Window.{Window}
 use Rattle.place.specs.Place.{Inside}
 use Rattle.session.specs.declared.Session.{Session}
 use Rattle.session.specs.declared.Reply.{Reply}
-use Rattle.host.specs.Call.{hostRunOf}
+use Rattle.running.specs.Call.{hostRunOf}
 use Rattle.service.specs.Answer.{hostAnswerOf}
 use Rattle.isolation.specs.Windows.{SameWindow, Entry, entry, Alike}
 

@@ -5,8 +5,8 @@ use mathlib.Core.List.{List}
 use Rattle.place.specs.declared.Window.{Window}
 use Rattle.session.specs.declared.Session.{Session}
 use Rattle.session.specs.declared.Reply.{Reply}
-use Rattle.host.specs.Run.{ranOf}
-use Rattle.host.specs.Call.{hostRunOf}
+use Rattle.running.specs.Run.{ranOf}
+use Rattle.running.specs.Call.{hostRunOf}
 use Rattle.isolation.specs.Windows.{SameWindow, entry, Alike}
 
 -- of what is given a window and an arena

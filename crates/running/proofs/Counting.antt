@@ -10,8 +10,8 @@ use Rattle.cpu.specs.declared.End.{End}
 use Rattle.cpu.specs.declared.Stepped.{Stepped}
 use Rattle.cpu.specs.Step.{done, raised, stepOf}
 use Rattle.session.specs.declared.Stop.{Stop}
-use Rattle.host.specs.Run.{Went, stopped, counted}
-use Rattle.host.proofs.Every.{of-run}
+use Rattle.running.specs.Run.{Went, stopped, counted}
+use Rattle.running.proofs.Every.{of-run}
 use Rattle.running.specs.Counted.{State, state, stepFrom, left, after, Because, Counts, EveryRunCounts}
 
 module _ (code : List ℕ) (w : Window) where

@@ -9,7 +9,7 @@ use Rattle.cpu.specs.declared.End.{End}
 use Rattle.cpu.specs.declared.Stepped.{Stepped}
 use Rattle.cpu.specs.Step.{stepOf}
 use Rattle.session.specs.declared.Stop.{Stop}
-use Rattle.host.specs.Run.{Went, runOf}
+use Rattle.running.specs.Run.{Went, runOf}
 
 -- registers, pc and arena
 pub record State : Type 0 where

@@ -1,1 +1,4 @@
+pub mod Run
+pub mod Call
+pub mod Starred
 pub mod Counted

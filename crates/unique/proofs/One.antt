@@ -1,7 +1,7 @@
 -- One lemma, and a citation for each call.
 use mathlib.Core.Path.{_≡_, refl, sym, _∙_}
 use Rattle.opcode.specs.Decode.{decodeOf}
-use Rattle.host.specs.Call.{hostRunOf}
+use Rattle.running.specs.Call.{hostRunOf}
 use Rattle.service.specs.Answer.{hostAnswerOf}
 use Rattle.unique.specs.Unique.{AtMostOne, RunUnique, AnswerUnique, DecodeUnique}
 

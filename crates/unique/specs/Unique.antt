@@ -9,7 +9,7 @@ use Rattle.isa.specs.declared.Decoded.{Decoded}
 use Rattle.opcode.specs.Decode.{Decodes}
 use Rattle.session.specs.declared.Session.{Session}
 use Rattle.session.specs.declared.Reply.{Reply}
-use Rattle.host.specs.Call.{Runs}
+use Rattle.running.specs.Call.{Runs}
 use Rattle.service.specs.Answer.{Answers}
 
 -- at most one answer meets the promise P

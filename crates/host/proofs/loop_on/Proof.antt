@@ -7,8 +7,8 @@ use denote.Ref.{now}
 use borrow.Author.Needs.{needs}
 use Rattle.cpu.specs.Step.{stepOf}
 use Rattle.cpu.proofs.Turns.{goes-on, stops}
-use Rattle.host.specs.Run.{counted, runOf}
-use Rattle.host.proofs.Turning.{goes, ends, spends, begins, replies}
+use Rattle.running.specs.Run.{counted, runOf}
+use Rattle.running.proofs.Turning.{goes, ends, spends, begins, replies}
 use Rattle.host.proofs.loop_on.Statement.{statement}
 use Rattle.host.proofs.loop_on.Tie as tie
 

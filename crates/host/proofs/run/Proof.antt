@@ -4,7 +4,7 @@ use lib.ListN.{length}
 use denote.Ref.{now}
 use borrow.Author.Needs.{needs}
 use Rattle.refuse.proofs.Accepted.{accepted}
-use Rattle.host.proofs.Promise.{by-verdict}
+use Rattle.running.proofs.Promise.{by-verdict}
 use Rattle.host.proofs.run.Statement.{statement}
 use Rattle.host.proofs.run.Tie as tie
 

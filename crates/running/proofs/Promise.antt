@@ -11,9 +11,9 @@ use Rattle.session.specs.declared.Reply.{Reply}
 use Rattle.session.specs.Numbers.{numbersOf}
 use Rattle.refuse.specs.declared.Verdict.{Verdict}
 use Rattle.refuse.specs.Refusals.{verdictOf, runTests}
-use Rattle.host.specs.Run.{ranOf, Leaves}
-use Rattle.host.specs.Call.{judged, hostRunOf, Runs}
-use Rattle.host.proofs.Every.{steps-within}
+use Rattle.running.specs.Run.{ranOf, Leaves}
+use Rattle.running.specs.Call.{judged, hostRunOf, Runs}
+use Rattle.running.proofs.Every.{steps-within}
 
 module _ (code : List ℕ) (w : Window) (s : Session) (budget : ℕ) (arena : List ℕ) where
   -- no more steps than the budget, and the total has grown by them, refused or not

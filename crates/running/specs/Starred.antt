@@ -28,8 +28,8 @@ use Rattle.session.specs.declared.Reply.{Reply}
 use Rattle.session.specs.declared.Numbers.{Numbers}
 use Rattle.session.specs.Numbers.{numbersOf}
 use Rattle.refuse.specs.Refusals.{codeDue, windowDue, placeDue, zeroDue, budgetDue, totalDue}
-use Rattle.host.specs.Run.{runOf, ranOf}
-use Rattle.host.specs.Call.{hostRunOf}
+use Rattle.running.specs.Run.{runOf, ranOf}
+use Rattle.running.specs.Call.{hostRunOf}
 
 -- the four bytes of a word, the lowest first
 abbrev bytesOfWord : ℕ → List ℕ

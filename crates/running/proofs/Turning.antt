@@ -13,7 +13,7 @@ use Rattle.cpu.specs.Step.{done, raised, Steps, stepOf}
 use Rattle.session.specs.declared.Session.{Session}
 use Rattle.session.specs.declared.Stop.{Stop}
 use Rattle.session.specs.declared.Outcome.{Outcome}
-use Rattle.host.specs.Run.{stopped, counted, runOf, ranOf, Leaves}
+use Rattle.running.specs.Run.{stopped, counted, runOf, ranOf, Leaves}
 
 -- a pair from its parts
 paired : {A B : Type 0} {x y : A} {a b : B} → x ≡ y → a ≡ b → _≡_ {A = A × B} (x, a) (y, b)

@@ -12,8 +12,8 @@ use Rattle.cpu.specs.declared.Stepped.{Stepped}
 use Rattle.cpu.specs.Step.{done, raised, stepOf}
 use Rattle.cpu.proofs.Raising.{raise-unchanged}
 use Rattle.session.specs.declared.Stop.{Stop}
-use Rattle.host.specs.Run.{Went, stopped, counted, runOf}
-use Rattle.host.proofs.Turning.{run-none, run-done, run-raised}
+use Rattle.running.specs.Run.{Went, stopped, counted, runOf}
+use Rattle.running.proofs.Turning.{run-none, run-done, run-raised}
 
 -- a step that completes, by its parts
 finished : (s : Stepped × List ℕ) → s .0 .end ≡ End.Done → s ≡ done (s .0 .regs) (s .0 .pc) (s .1)

@@ -10,7 +10,7 @@ use Rattle.session.specs.declared.Reply.{Reply}
 use Rattle.session.specs.Numbers.{numbersOf}
 use Rattle.refuse.specs.declared.Verdict.{Verdict}
 use Rattle.refuse.specs.Refusals.{verdictOf, runTests}
-use Rattle.host.specs.Run.{ranOf}
+use Rattle.running.specs.Run.{ranOf}
 
 -- "Refused runs .. return the session as it came, with step count 0, the arena unchanged"
 abbrev pub judged : Verdict → Session → List ℕ → Reply × List ℕ → Reply × List ℕ

@@ -1,3 +1,0 @@
-pub mod Run
-pub mod Call
-pub mod Starred
