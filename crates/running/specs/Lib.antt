@@ -2,3 +2,4 @@ pub mod Run
 pub mod Call
 pub mod Starred
 pub mod Counted
+pub mod Edges

@@ -1,6 +1,7 @@
 -- 01, "The guest machine": "A session holds 32 general registers of 64 bits, the program counter (pc), the total of steps completed, and
 -- a support note: 16 bytes, or absent and then without content."
 use Prim.Native.Nat.{ℕ, zero, suc, _/_, _%_, _^_}
+use mathlib.Core.Path.{_≡_, refl}
 use mathlib.Core.List.{List, [], _∷_, _++_}
 use lib.ListN.{replicate}
 use Rattle.session.specs.declared.Note.{Note}
@@ -19,6 +20,11 @@ bytesLE (suc n) v = v % 256 ∷ bytesLE n (v / 256)
 abbrev pub noteBytes : Note → List ℕ
 noteBytes Note.Absent = []
 noteBytes (Note.Present low high) = bytesLE 8 low ++ bytesLE 8 high
+
+-- the first byte is the lowest of the first number
+pub note-in-order : noteBytes (Note.Present 0x0807060504030201 0x100f0e0d0c0b0a09) ≡ 1 ∷ 2 ∷ 3 ∷ 4 ∷ 5 ∷ 6 ∷ 7 ∷ 8 ∷ 9 ∷ 10 ∷ 11 ∷ 12 ∷ 13 ∷ 14 ∷ 15 ∷ 16 ∷ []
+unfolding bytesLE
+note-in-order = refl
 
 -- refusal 5: "budget over 1,000,000"
 abbrev pub budgetMax : ℕ
