@@ -8,7 +8,7 @@ use Rattle.session.specs.declared.Session.{Session}
 use Rattle.session.specs.declared.Reply.{Reply}
 use Rattle.isolation.specs.Windows.{OutsideUnchanged}
 use Rattle.isolation.specs.Histories.{Act, run, answer, Foreign, Event, own, other, acted, afterOther, entries, ownActs, ShareNoByte, OthersApart, AllAlike, HistoriesIsolated}
-use Rattle.isolation.proofs.Twins.{Twins, twins}
+use Rattle.isolation.proofs.Twins.{Twins, twins, turned}
 use Rattle.isolation.proofs.Isolated.{unchanged, outside-call, same-call, alike}
 
 -- an own act changes nothing outside the window
@@ -16,32 +16,25 @@ outside-act : (a : Act) (w : Window) (s : Session) (arena : List ℕ) → Outsid
 outside-act (run code budget) w s arena = outside-call code w s budget arena
 outside-act (answer code value) w s arena = unchanged w arena
 
+-- another session's run leaves the window as it was
+other-run : (v w : Window) (f : Foreign) (A B : List ℕ) → ShareNoByte v (f .window) → Twins v A w B → Twins v (afterOther f A) w B
+other-run v w f A B apart t =
+    let o = outside-call (f .code) (f .window) (f .session) (f .budget) A in
+    record {
+      fits-A = rw (o .as-long) (t .fits-A);
+      fits-B = t .fits-B;
+      lengths = t .lengths;
+      byte = λ k l. o .bytes (v .start .0 + k) (apart (v .start .0 + k) (omega arith, omega arith)) ∙ t .byte k l;
+    }
+
 module _ (v w : Window) where
   same-act : (a : Act) (s : Session) (A B : List ℕ) → Twins v A w B → (acted a v s A .0 ≡ acted a w s B .0) × Twins v (acted a v s A .1) w (acted a w s B .1)
   same-act (run code budget) s A B t = same-call code v w s budget A B t
   same-act (answer code value) s A B t = (refl, t)
 
-  -- another session's run on one side, and on the other
-  other-A : (f : Foreign) (A B : List ℕ) → ShareNoByte v (f .window) → Twins v A w B → Twins v (afterOther f A) w B
-  other-A f A B apart t =
-      let o = outside-call (f .code) (f .window) (f .session) (f .budget) A in
-      record {
-        fits-A = rw (o .as-long) (t .fits-A);
-        fits-B = t .fits-B;
-        lengths = t .lengths;
-        byte = λ k l. o .bytes (v .start .0 + k) (apart (v .start .0 + k) (omega arith, omega arith)) ∙ t .byte k l;
-      }
-
+  -- on the second side
   other-B : (f : Foreign) (A B : List ℕ) → ShareNoByte w (f .window) → Twins v A w B → Twins v A w (afterOther f B)
-  other-B f A B apart t =
-      let o = outside-call (f .code) (f .window) (f .session) (f .budget) B in
-      let same = t .lengths in
-      record {
-        fits-A = t .fits-A;
-        fits-B = rw (o .as-long) (t .fits-B);
-        lengths = t .lengths;
-        byte = λ k l. t .byte k l ∙ sym (o .bytes (w .start .0 + k) (apart (w .start .0 + k) (omega arith, omega arith)));
-      }
+  other-B f A B apart t = turned w (afterOther f B) v A (other-run w v f B A apart (turned v A w B t))
 
   -- what is to be shown of two histories
   abbrev Goes : List Event → List Event → Type 0
@@ -73,7 +66,7 @@ module _ (v w : Window) where
   unfolding entries ownActs OthersApart AllAlike
   along [] h = no-acts h
   along (own a ∷ g) h = next-act a g (along g) h
-  along (other f ∷ g) h = λ s A B t p q e. along g h s (afterOther f A) B (other-A f A B (p .0) t) (p .1) q e
+  along (other f ∷ g) h = λ s A B t p q e. along g h s (afterOther f A) B (other-run v w f A B (p .0) t) (p .1) q e
 
 pub histories-isolated : HistoriesIsolated
 histories-isolated v A w B g h s same = along v w g h s A B (twins v A w B same)

@@ -38,3 +38,13 @@ same-bytes v A w B t =
   where
     at : (k : ℕ) → k < v .len → getD (bytesIn v A) k 0 ≡ getD (bytesIn w B) k 0
     at k h = in-place v A k h ∙ t .byte k h ∙ sym (in-place w B k (subst (λ (n : ℕ). k < n) (t .lengths) h))
+
+-- the two sides exchanged
+pub turned : (v : Window) (A : List ℕ) (w : Window) (B : List ℕ) → Twins v A w B → Twins w B v A
+turned v A w B t =
+    record {
+      fits-A = t .fits-B;
+      fits-B = t .fits-A;
+      lengths = sym (t .lengths);
+      byte = λ k h. sym (t .byte k (subst (λ (n : ℕ). k < n) (sym (t .lengths)) h));
+    }
