@@ -108,7 +108,7 @@ pub fn turn(
     match fetch(code, pc) {
         Fetched::Word(word) => match decoder::decode(word) {
             Decoded::Known(i) => {
-                let e = effect::ask(i, regs, pc);
+                let e = ask::ask(i, regs, pc);
                 apply(arena, window, e, regs, pc)
             }
             Decoded::Unknown => Turned::Raised(Fault::Ine(word)),
