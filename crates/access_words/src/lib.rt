@@ -1,41 +1,13 @@
-// Words of accesses and of barriers. A function for each beginning that they have in common, with its arms in the table's order.
+// Words of LDPTR and STPTR, of an index in a register, and of barriers. A function for each beginning that they have in common, with its
+// arms in the table's order.
 ghost use mathlib.Core.Path.{_≡_};
 ghost use Prim.Native.Nat.{_/_, _^_};
 ghost use Rattle.opcode.specs.Decode.{decodeOf};
-ghost use Rattle.opcode.specs.Found.{access, indexedAccess};
 ghost use Rattle.access_words.specs.Found.{pointerAt};
 use isa::Barrier;
 use isa::Decoded;
 use isa::Instruction;
 use isa::Pointer;
-use opcode::Access;
-
-// An access at an offset, with its operands.
-pub fn at_offset(found: Access, word: u32) -> Decoded
-    ensures { λ r. ⌜ r ≡ access word found ⌝ }
-{
-    match found {
-        Access::Load(op) => Decoded::Known(Instruction::Load(op, operands::of_r2i12(word))),
-        Access::Store(op) => Decoded::Known(Instruction::Store(op, operands::of_r2i12(word))),
-        Access::Preload(op) => Decoded::Known(Instruction::Preload(
-            op,
-            operands::of_hint_i12(word),
-        )),
-        Access::Missing => Decoded::Unknown,
-    }
-}
-
-// An access at an index, with its operands.
-fn at_index(found: Access, word: u32) -> Decoded
-    ensures { λ r. ⌜ r ≡ indexedAccess word found ⌝ }
-{
-    match found {
-        Access::Load(op) => Decoded::Known(Instruction::LoadIndexed(op, operands::of_r3(word))),
-        Access::Store(op) => Decoded::Known(Instruction::StoreIndexed(op, operands::of_r3(word))),
-        Access::Preload(op) => Decoded::Known(Instruction::Preload(op, operands::of_hint_r2(word))),
-        Access::Missing => Decoded::Unknown,
-    }
-}
 
 // An access at an offset in words.
 fn pointer(op: Pointer, word: u32) -> Decoded
@@ -77,7 +49,7 @@ pub fn registers_only(word: u32) -> Decoded
     ensures { λ r. ⌜ r ≡ decodeOf word ⌝ }
 {
     match word / 0x40_0000 {
-        0xe0 => at_index(opcode::indexed(word), word),
+        0xe0 => accesses::at_index(access_opcodes::indexed(word), word),
         0xe1 => barriers(word),
         _ => Decoded::Unknown,
     }

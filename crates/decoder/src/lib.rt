@@ -79,7 +79,7 @@ pub fn decode(word: u32) -> Decoded
         0x14 => jump(Jump::B, word),
         0x15 => jump(Jump::Bl, word),
         0x13 => linked(word),
-        0xa => access_words::at_offset(opcode::accesses(word), word),
+        0xa => accesses::at_offset(access_opcodes::accesses(word), word),
         0xe => access_words::registers_only(word),
         0x9 => access_words::pointers(word),
         _ => Decoded::Unknown,

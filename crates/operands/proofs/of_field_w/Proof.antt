@@ -1,4 +1,4 @@
--- `operands::of_field_w` meets its contract: field by field. Assumes nothing.
+-- `operands::of_field_w` meets its contract: field by field, whatever function read it. Assumes nothing.
 use borrow.Author.Needs.{needs}
 use Rattle.operands.proofs.of_field_w.Statement.{statement}
 use Rattle.operands.proofs.of_field_w.Tie as tie
@@ -8,4 +8,4 @@ of-field-w-spec =
     tie.close
     (tie.spec
     (λ c κs. search needs) (λ c κs. search needs) (λ c κs. search needs) (λ c κs. search needs)
-    (λ c. λ i. record { rd = c .before .before .before .rd-of .ensures i; rj = c .before .before .rj-of .ensures i; lsb = c .before .rk-of .ensures i; msb = c .msbw-of .ensures i }))
+    (λ c. cc))

@@ -1,4 +1,4 @@
--- `operands::of_r1i21` meets its contract: field by field. Assumes nothing.
+-- `operands::of_r1i21` meets its contract: field by field, whatever function read it. Assumes nothing.
 use borrow.Author.Needs.{needs}
 use Rattle.operands.proofs.of_r1i21.Statement.{statement}
 use Rattle.operands.proofs.of_r1i21.Tie as tie
@@ -8,4 +8,4 @@ of-r1i21-spec =
     tie.close
     (tie.spec
     (λ c κs. search needs) (λ c κs. search needs)
-    (λ c. λ i. record { rd = 0; rj = c .before .rj-of .ensures i; rk = 0; imm = c .offs21-of .ensures i }))
+    (λ c. cc))

@@ -1,4 +1,4 @@
--- `operands::of_r2i5` meets its contract: field by field. Assumes nothing.
+-- `operands::of_r2i5` meets its contract: field by field, whatever function read it. Assumes nothing.
 use borrow.Author.Needs.{needs}
 use Rattle.operands.proofs.of_r2i5.Statement.{statement}
 use Rattle.operands.proofs.of_r2i5.Tie as tie
@@ -8,4 +8,4 @@ of-r2i5-spec =
     tie.close
     (tie.spec
     (λ c κs. search needs) (λ c κs. search needs) (λ c κs. search needs)
-    (λ c. λ i. record { rd = c .before .before .rd-of .ensures i; rj = c .before .rj-of .ensures i; rk = 0; imm = c .ui5-of .ensures i }))
+    (λ c. cc))

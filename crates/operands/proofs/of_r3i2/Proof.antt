@@ -1,4 +1,4 @@
--- `operands::of_r3i2` meets its contract: field by field. Assumes nothing.
+-- `operands::of_r3i2` meets its contract: field by field, whatever function read it. Assumes nothing.
 use borrow.Author.Needs.{needs}
 use Rattle.operands.proofs.of_r3i2.Statement.{statement}
 use Rattle.operands.proofs.of_r3i2.Tie as tie
@@ -8,4 +8,4 @@ of-r3i2-spec =
     tie.close
     (tie.spec
     (λ c κs. search needs) (λ c κs. search needs) (λ c κs. search needs) (λ c κs. search needs)
-    (λ c. λ i. record { rd = c .before .before .before .rd-of .ensures i; rj = c .before .before .rj-of .ensures i; rk = c .before .rk-of .ensures i; imm = c .sa2-of .ensures i }))
+    (λ c. cc))

@@ -1,8 +1,8 @@
--- `opcode::accesses` meets its contract: a line for each arm, and the last one by a law over the table. Assumes nothing.
+-- `access_opcodes::accesses` meets its contract: a line for each arm, and the last one by a law over the table. Assumes nothing.
 use Rattle.opcode.specs.Families.{table}
 use Rattle.opcode.proofs.Narrow.{leaf, rest}
-use Rattle.opcode.proofs.accesses.Statement.{statement}
-use Rattle.opcode.proofs.accesses.Tie as tie
+use Rattle.access_opcodes.proofs.accesses.Statement.{statement}
+use Rattle.access_opcodes.proofs.accesses.Tie as tie
 
 pub accesses-spec : {M : Type 1} → statement M
 unfolding table

@@ -1,7 +1,7 @@
--- `access_words::at_offset` meets its contract: a line for each case. Assumes nothing.
+-- `accesses::at_offset` meets its contract: a line for each case. Assumes nothing.
 use borrow.Author.Needs.{needs}
-use Rattle.access_words.proofs.at_offset.Statement.{statement}
-use Rattle.access_words.proofs.at_offset.Tie as tie
+use Rattle.accesses.proofs.at_offset.Statement.{statement}
+use Rattle.accesses.proofs.at_offset.Tie as tie
 
 pub at-offset-spec : {M : Type 1} → statement M
 at-offset-spec =

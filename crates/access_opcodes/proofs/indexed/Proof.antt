@@ -1,8 +1,8 @@
--- `opcode::indexed` meets its contract: a line for each arm, and the last one by a law over the table. Assumes nothing.
+-- `access_opcodes::indexed` meets its contract: a line for each arm, and the last one by a law over the table. Assumes nothing.
 use Rattle.opcode.specs.Families.{table}
 use Rattle.opcode.proofs.Narrow.{leaf, rest}
-use Rattle.opcode.proofs.indexed.Statement.{statement}
-use Rattle.opcode.proofs.indexed.Tie as tie
+use Rattle.access_opcodes.proofs.indexed.Statement.{statement}
+use Rattle.access_opcodes.proofs.indexed.Tie as tie
 
 pub indexed-spec : {M : Type 1} → statement M
 unfolding table

@@ -1,7 +1,7 @@
--- `access_words::at_index` meets its contract: a line for each case. Assumes nothing.
+-- `accesses::at_index` meets its contract: a line for each case. Assumes nothing.
 use borrow.Author.Needs.{needs}
-use Rattle.access_words.proofs.at_index.Statement.{statement}
-use Rattle.access_words.proofs.at_index.Tie as tie
+use Rattle.accesses.proofs.at_index.Statement.{statement}
+use Rattle.accesses.proofs.at_index.Tie as tie
 
 pub at-index-spec : {M : Type 1} → statement M
 at-index-spec =
