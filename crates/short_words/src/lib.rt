@@ -1,4 +1,4 @@
-// Words that begin with fourteen bits that leave no room for a third register: one register in and one out, ASRT, and the traps.
+// Words of one register in and one out, of ASRT, and of the traps: their first fourteen bits are 0 or 10.
 ghost use mathlib.Core.Path.{_≡_};
 ghost use Prim.Native.Nat.{_/_, _^_};
 ghost use Rattle.opcode.specs.Decode.{decodeOf};
