@@ -5,8 +5,6 @@ ghost use lib.ListN.{length};
 ghost use Rattle.cpu.specs.Step.{fetchOf, accessOf, applyOf, stepOf, Meets, Steps};
 use effect::Effect;
 use fault::Fault;
-use isa::Decoded;
-use isa::Load;
 use place::ArenaOffset;
 use place::FetchPlace;
 use place::GuestAddr;
@@ -106,13 +104,10 @@ pub fn turn(
     ensures { λ r. ⌜ Meets r (now (regs .exit)) (now (arena .exit)) (stepOf (now (code .entry)) window (now (regs .entry)) pc (now (arena .entry))) ⌝ }
 {
     match fetch(code, pc) {
-        Fetched::Word(word) => match decoder::decode(word) {
-            Decoded::Known(i) => {
-                let e = effect::ask(i, regs, pc);
-                apply(arena, window, e, regs, pc)
-            }
-            Decoded::Unknown => Turned::Raised(Fault::Ine(word)),
-        },
+        Fetched::Word(word) => {
+            let e = asked::of_word(word, regs, pc);
+            apply(arena, window, e, regs, pc)
+        }
         Fetched::Bad => Turned::Raised(Fault::Adef(pc)),
     }
 }

@@ -1,49 +1,20 @@
 // The instruction that a word is: a function for each beginning that words have in common, with its arms in the table's order.
 ghost use mathlib.Core.Path.{_≡_};
-ghost use Prim.Native.Nat.{_/_, _^_};
-ghost use Rattle.opcode.specs.Decode.{decodeOf, Decodes};
-ghost use Rattle.opcode.specs.Found.{access, indexedAccess};
-ghost use Rattle.decoder.specs.Found.{upperPair};
+ghost use Rattle.opcode.specs.Decode.{Decodes};
+ghost use Rattle.decoder.specs.Found.{upperPair, branchOn, zeroBranchOn, jumpBy, jirl, addu16iD};
 use alu::Immediate;
 use alu::Upper;
-use isa::Barrier;
 use isa::Branch;
 use isa::Decoded;
 use isa::Instruction;
 use isa::Jump;
-use isa::Pointer;
 use isa::ZeroBranch;
-use opcode::Access;
-
-// An access at an offset, with its operands.
-fn at_offset(found: Access, word: u32) -> Decoded
-    ensures { λ r. ⌜ r ≡ access word found ⌝ }
-{
-    match found {
-        Access::Load(op) => Decoded::Known(Instruction::Load(op, isa::of_r2i12(word))),
-        Access::Store(op) => Decoded::Known(Instruction::Store(op, isa::of_r2i12(word))),
-        Access::Preload(op) => Decoded::Known(Instruction::Preload(op, isa::of_hint_i12(word))),
-        Access::Missing => Decoded::Unknown,
-    }
-}
-
-// An access at an index, with its operands.
-fn at_index(found: Access, word: u32) -> Decoded
-    ensures { λ r. ⌜ r ≡ indexedAccess word found ⌝ }
-{
-    match found {
-        Access::Load(op) => Decoded::Known(Instruction::LoadIndexed(op, isa::of_r3(word))),
-        Access::Store(op) => Decoded::Known(Instruction::StoreIndexed(op, isa::of_r3(word))),
-        Access::Preload(op) => Decoded::Known(Instruction::Preload(op, isa::of_hint_r2(word))),
-        Access::Missing => Decoded::Unknown,
-    }
-}
 
 // Two operations that differ in one bit of the opcode.
 fn uppers(bit: bool, set: Upper, clear: Upper, word: u32) -> Decoded
     ensures { λ r. ⌜ r ≡ upperPair bit set clear word ⌝ }
 {
-    let o = isa::of_r1i20(word);
+    let o = operands::of_r1i20(word);
     if bit {
         Decoded::Known(Instruction::Upper(set, o))
     } else {
@@ -51,44 +22,39 @@ fn uppers(bit: bool, set: Upper, clear: Upper, word: u32) -> Decoded
     }
 }
 
-// LDPTR and STPTR.
-fn pointers(word: u32) -> Decoded
-    requires { ⌜ word / 2 ^ 26 ≡ 9 ⌝ }
-    ensures { λ r. ⌜ r ≡ decodeOf word ⌝ }
+// A branch on two registers.
+fn branch(op: Branch, word: u32) -> Decoded
+    ensures { λ r. ⌜ r ≡ branchOn op word ⌝ }
 {
-    let o = isa::of_r2i14(word);
-    match word / 0x100_0000 {
-        0x24 => Decoded::Known(Instruction::Pointer(Pointer::LdptrW, o)),
-        0x26 => Decoded::Known(Instruction::Pointer(Pointer::LdptrD, o)),
-        0x25 => Decoded::Known(Instruction::Pointer(Pointer::StptrW, o)),
-        0x27 => Decoded::Known(Instruction::Pointer(Pointer::StptrD, o)),
-        _ => Decoded::Unknown,
-    }
+    Decoded::Known(Instruction::Branch(op, operands::of_r2i16(word)))
 }
 
-// DBAR and IBAR.
-fn barriers(word: u32) -> Decoded
-    requires { ⌜ word / 2 ^ 22 ≡ 0xe1 ⌝ }
-    ensures { λ r. ⌜ r ≡ decodeOf word ⌝ }
+// A branch on one register.
+fn zero_branch(op: ZeroBranch, word: u32) -> Decoded
+    ensures { λ r. ⌜ r ≡ zeroBranchOn op word ⌝ }
 {
-    let o = isa::of_i15(word);
-    match word / 0x8000 {
-        0x70e4 => Decoded::Known(Instruction::Barrier(Barrier::Dbar, o)),
-        0x70e5 => Decoded::Known(Instruction::Barrier(Barrier::Ibar, o)),
-        _ => Decoded::Unknown,
-    }
+    Decoded::Known(Instruction::ZeroBranch(op, operands::of_r1i21(word)))
 }
 
-// An index in a register, and barriers.
-fn registers_only(word: u32) -> Decoded
-    requires { ⌜ word / 2 ^ 26 ≡ 14 ⌝ }
-    ensures { λ r. ⌜ r ≡ decodeOf word ⌝ }
+// B and BL.
+fn jump(op: Jump, word: u32) -> Decoded
+    ensures { λ r. ⌜ r ≡ jumpBy op word ⌝ }
 {
-    match word / 0x40_0000 {
-        0xe0 => at_index(opcode::indexed(word), word),
-        0xe1 => barriers(word),
-        _ => Decoded::Unknown,
-    }
+    Decoded::Known(Instruction::Jump(op, operands::of_i26(word)))
+}
+
+// JIRL.
+fn linked(word: u32) -> Decoded
+    ensures { λ r. ⌜ r ≡ jirl word ⌝ }
+{
+    Decoded::Known(Instruction::Jump(Jump::Jirl, operands::of_r2i16(word)))
+}
+
+// ADDU16I.D.
+fn upper_sum(word: u32) -> Decoded
+    ensures { λ r. ⌜ r ≡ addu16iD word ⌝ }
+{
+    Decoded::Known(Instruction::Immediate(Immediate::Addu16iD, operands::of_r2i16(word)))
 }
 
 // The instruction of a word, for every word.
@@ -98,24 +64,24 @@ pub fn decode(word: u32) -> Decoded
     let bit = word / 0x200_0000 % 2 == 1;
     match word / 0x400_0000 {
         0x0 => arithmetic::zeros(word),
-        0x4 => Decoded::Known(Instruction::Immediate(Immediate::Addu16iD, isa::of_r2i16(word))),
+        0x4 => upper_sum(word),
         0x5 => uppers(bit, Upper::Lu32iD, Upper::Lu12iW, word),
         0x6 => uppers(bit, Upper::Pcalau12i, Upper::Pcaddi, word),
         0x7 => uppers(bit, Upper::Pcaddu18i, Upper::Pcaddu12i, word),
-        0x16 => Decoded::Known(Instruction::Branch(Branch::Beq, isa::of_r2i16(word))),
-        0x17 => Decoded::Known(Instruction::Branch(Branch::Bne, isa::of_r2i16(word))),
-        0x18 => Decoded::Known(Instruction::Branch(Branch::Blt, isa::of_r2i16(word))),
-        0x19 => Decoded::Known(Instruction::Branch(Branch::Bge, isa::of_r2i16(word))),
-        0x1a => Decoded::Known(Instruction::Branch(Branch::Bltu, isa::of_r2i16(word))),
-        0x1b => Decoded::Known(Instruction::Branch(Branch::Bgeu, isa::of_r2i16(word))),
-        0x10 => Decoded::Known(Instruction::ZeroBranch(ZeroBranch::Beqz, isa::of_r1i21(word))),
-        0x11 => Decoded::Known(Instruction::ZeroBranch(ZeroBranch::Bnez, isa::of_r1i21(word))),
-        0x14 => Decoded::Known(Instruction::Jump(Jump::B, isa::of_i26(word))),
-        0x15 => Decoded::Known(Instruction::Jump(Jump::Bl, isa::of_i26(word))),
-        0x13 => Decoded::Known(Instruction::Jump(Jump::Jirl, isa::of_r2i16(word))),
-        0xa => at_offset(opcode::accesses(word), word),
-        0xe => registers_only(word),
-        0x9 => pointers(word),
+        0x16 => branch(Branch::Beq, word),
+        0x17 => branch(Branch::Bne, word),
+        0x18 => branch(Branch::Blt, word),
+        0x19 => branch(Branch::Bge, word),
+        0x1a => branch(Branch::Bltu, word),
+        0x1b => branch(Branch::Bgeu, word),
+        0x10 => zero_branch(ZeroBranch::Beqz, word),
+        0x11 => zero_branch(ZeroBranch::Bnez, word),
+        0x14 => jump(Jump::B, word),
+        0x15 => jump(Jump::Bl, word),
+        0x13 => linked(word),
+        0xa => accesses::at_offset(access_opcodes::accesses(word), word),
+        0xe => access_words::registers_only(word),
+        0x9 => access_words::pointers(word),
         _ => Decoded::Unknown,
     }
 }

@@ -3,12 +3,12 @@
 -- stop, pretends steps or makes up the count is refused here.
 -- The window starts at the odd offset 7 of an arena of 40 bytes, with other bytes on both sides: an access that is compared with the
 -- arena's end fails cases 8 and 10.
-use Prim.Native.Nat.{ℕ, _+_, _/_, _%_}
+use Prim.Native.Nat.{ℕ, _+_}
 use mathlib.Core.Path.{_≡_, refl}
 use mathlib.Core.List.{List, [], _∷_, map}
 use lib.ListN.{set, replicate}
 use Rattle.place.specs.Place.{locateOf, fetchPlaceOf}
-use Rattle.bytes.specs.Bytes.{getLE}
+use Rattle.bytes.specs.Bytes.{getLE, bytesLE}
 use Rattle.alu.specs.Alu.{aluOf}
 use Rattle.alu.specs.Alsl.{alslOf}
 use Rattle.alu.specs.Immediate.{immediateOf}
@@ -30,10 +30,6 @@ use Rattle.session.specs.Numbers.{numbersOf}
 use Rattle.refuse.specs.Refusals.{codeDue, windowDue, placeDue, zeroDue, budgetDue, totalDue}
 use Rattle.running.specs.Run.{runOf, ranOf}
 use Rattle.running.specs.Call.{hostRunOf}
-
--- the four bytes of a word, the lowest first
-abbrev bytesOfWord : ℕ → List ℕ
-bytesOfWord w = w % 256 ∷ w / 256 % 256 ∷ w / 65536 % 256 ∷ w / 16777216 ∷ []
 
 abbrev arena : List ℕ
 arena =
@@ -78,7 +74,7 @@ pub record Case : Type 0 where
 abbrev call : Case → Seen
 call c =
     seen
-    (hostRunOf (bytesOfWord (c .word)) (record { start = record { 0 = 7 }; len = c .len }) (session (c .given) 0x10000 0) (c .budget) arena)
+    (hostRunOf (bytesLE 4 (c .word)) (record { start = record { 0 = 7 }; len = c .len }) (session (c .given) 0x10000 0) (c .budget) arena)
 
 -- word, registers given, window length, budget; Ecode, subcode, carried; count, registers and pc afterwards. No case stores.
 abbrev case : ℕ → List Value → ℕ → ℕ → ℕ → ℕ → ℕ → ℕ → List Value → ℕ → Case
@@ -135,5 +131,5 @@ cases =
     ∷ []
 
 pub starred : map call cases ≡ map (λ (c : Case). c .want) cases
-unfolding hostRunOf codeDue windowDue placeDue zeroDue budgetDue totalDue ranOf runOf stepOf fetchOf fetchPlaceOf accessOf locateOf applyOf effectOf decodeOf table getLE reg written loadedOf aluOf alslOf immediateOf upperOf divisionOf bytepickOf
+unfolding hostRunOf codeDue windowDue placeDue zeroDue budgetDue totalDue ranOf runOf stepOf fetchOf fetchPlaceOf accessOf locateOf applyOf effectOf decodeOf table getLE reg written loadedOf aluOf alslOf immediateOf upperOf divisionOf bytepickOf bytesLE
 starred = refl

@@ -1,9 +1,10 @@
 -- 01, "The guest machine": "A session holds 32 general registers of 64 bits, the program counter (pc), the total of steps completed, and
 -- a support note: 16 bytes, or absent and then without content."
-use Prim.Native.Nat.{ℕ, zero, suc, _/_, _%_, _^_}
+use Prim.Native.Nat.{ℕ, _^_}
 use mathlib.Core.Path.{_≡_, refl}
 use mathlib.Core.List.{List, [], _∷_, _++_}
 use lib.ListN.{replicate}
+use Rattle.bytes.specs.Bytes.{bytesLE}
 use Rattle.session.specs.declared.Note.{Note}
 use Rattle.session.specs.declared.Session.{Session}
 
@@ -11,12 +12,7 @@ use Rattle.session.specs.declared.Session.{Session}
 abbrev pub freshOf : Session
 freshOf = record { regs = replicate 32 0; pc = record { 0 = 0 }; total = 0; note = Note.Absent }
 
--- the n lowest bytes of v, the lowest first ("All data is little-endian")
-unfoldable pub bytesLE : ℕ → ℕ → List ℕ
-bytesLE zero v = []
-bytesLE (suc n) v = v % 256 ∷ bytesLE n (v / 256)
-
--- the bytes of a note
+-- the bytes of a note ("All data is little-endian")
 abbrev pub noteBytes : Note → List ℕ
 noteBytes Note.Absent = []
 noteBytes (Note.Present low high) = bytesLE 8 low ++ bytesLE 8 high

@@ -1,11 +1,11 @@
 -- Worked steps: each row is one word at 0x10000 with r5, r6 and what the step must come to. The window has 16 bytes and starts at the
 -- odd offset 3 of an arena of 24 bytes. All rows stand under one theorem, whose proof is "compute both sides".
-use Prim.Native.Nat.{ℕ, _/_, _%_}
+use Prim.Native.Nat.{ℕ}
 use mathlib.Core.Path.{_≡_, refl}
 use mathlib.Core.List.{List, [], _∷_, map}
 use lib.ListN.{set, replicate}
 use Rattle.place.specs.Place.{locateOf, fetchPlaceOf}
-use Rattle.bytes.specs.Bytes.{getLE, putLE}
+use Rattle.bytes.specs.Bytes.{getLE, putLE, bytesLE}
 use Rattle.alu.specs.Alu.{aluOf}
 use Rattle.alu.specs.Immediate.{immediateOf}
 use Rattle.opcode.specs.Families.{table}
@@ -18,10 +18,6 @@ use Rattle.effect.specs.Effect.{effectOf}
 use Rattle.cpu.specs.declared.End.{End}
 use Rattle.cpu.specs.declared.Stepped.{Stepped}
 use Rattle.cpu.specs.Step.{fetchOf, accessOf, applyOf, stepOf}
-
--- the four bytes of a word
-abbrev bytesOfWord : ℕ → List ℕ
-bytesOfWord w = w % 256 ∷ w / 256 % 256 ∷ w / 65536 % 256 ∷ w / 16777216 ∷ []
 
 abbrev arena : List ℕ
 arena = 0xe0 ∷ 0xe1 ∷ 0xe2 ∷ 0 ∷ 1 ∷ 2 ∷ 3 ∷ 4 ∷ 5 ∷ 6 ∷ 7 ∷ 8 ∷ 9 ∷ 10 ∷ 11 ∷ 12 ∷ 13 ∷ 14 ∷ 0x8f ∷ 0xf3 ∷ 0xf4 ∷ 0xf5 ∷ 0xf6 ∷ 0xf7 ∷ []
@@ -38,7 +34,7 @@ pub record Case : Type 0 where
 
 -- the step at 0x10000
 abbrev run : Case → Stepped × List ℕ
-run c = stepOf (bytesOfWord (c .word)) (record { start = record { 0 = 3 }; len = 16 }) (registers (c .r5) (c .r6)) (record { 0 = 0x10000 }) arena
+run c = stepOf (bytesLE 4 (c .word)) (record { start = record { 0 = 3 }; len = 16 }) (registers (c .r5) (c .r6)) (record { 0 = 0x10000 }) arena
 
 -- the fault, and all as it was
 abbrev raises : ℕ → ℕ → ℕ → Fault → Case
@@ -97,5 +93,5 @@ cases =
     ∷ []
 
 pub worked : map run cases ≡ map (λ (c : Case). c .out) cases
-unfolding stepOf fetchOf fetchPlaceOf accessOf locateOf applyOf effectOf decodeOf table getLE putLE reg written loadedOf storedOf aluOf immediateOf
+unfolding stepOf fetchOf fetchPlaceOf accessOf locateOf applyOf effectOf decodeOf table getLE putLE reg written loadedOf storedOf aluOf immediateOf bytesLE
 worked = refl
