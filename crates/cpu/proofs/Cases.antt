@@ -16,11 +16,12 @@ use Rattle.memory.specs.Memory.{loadWidthOf, loadedOf, storedOf}
 use Rattle.operate.specs.Operate.{nextOf}
 use Rattle.effect.specs.declared.Effect.{Effect}
 use Rattle.effect.specs.Effect.{effectOf}
-use Rattle.cpu.specs.declared.Access.{Access}
+use Rattle.apply.specs.declared.Access.{Access}
 use Rattle.cpu.specs.declared.Fetched.{Fetched}
-use Rattle.cpu.specs.declared.Stepped.{Stepped}
-use Rattle.cpu.specs.Step.{done, raised, loadOf, storeOf, accessOf, applyOf, fetchOf, stepDecoded, stepFetched, stepOf}
-use Rattle.cpu.proofs.Accesses.{access-inside}
+use Rattle.apply.specs.declared.Stepped.{Stepped}
+use Rattle.apply.specs.Apply.{done, raised, loadOf, storeOf, accessOf, applyOf}
+use Rattle.cpu.specs.Step.{fetchOf, stepDecoded, stepFetched, stepOf}
+use Rattle.apply.proofs.Accesses.{access-inside}
 
 module _ (P : Stepped × List ℕ → Type 0) (w : Window) (gr : List ℕ) (pc : GuestAddr) (arena : List ℕ)
     (raising : (f : Fault) → P (raised f gr pc arena))

@@ -1,4 +1,3 @@
-pub mod Accesses
 pub mod Cases
 pub mod Raising
 pub mod Turns

@@ -6,9 +6,10 @@ use native.Mathlib.Omega.{arith}
 use Rattle.place.specs.declared.GuestAddr.{GuestAddr}
 use Rattle.place.specs.declared.Window.{Window}
 use Rattle.fault.specs.declared.Fault.{Fault}
-use Rattle.cpu.specs.declared.End.{End}
-use Rattle.cpu.specs.declared.Stepped.{Stepped}
-use Rattle.cpu.specs.Step.{raised, stepOf}
+use Rattle.apply.specs.declared.End.{End}
+use Rattle.apply.specs.declared.Stepped.{Stepped}
+use Rattle.apply.specs.Apply.{raised}
+use Rattle.cpu.specs.Step.{stepOf}
 use Rattle.cpu.proofs.Cases.{of-step}
 
 finished : {A : Type 0} (f : Fault) → End.Done ≡ End.Raised f → A

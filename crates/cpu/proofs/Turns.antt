@@ -6,10 +6,11 @@ use native.Mathlib.Omega.{arith}
 use Rattle.place.specs.declared.GuestAddr.{GuestAddr}
 use Rattle.place.specs.declared.Window.{Window}
 use Rattle.fault.specs.declared.Fault.{Fault}
-use Rattle.cpu.specs.declared.End.{End}
-use Rattle.cpu.specs.declared.Stepped.{Stepped}
-use Rattle.cpu.specs.declared.Turned.{Turned}
-use Rattle.cpu.specs.Step.{turnedOf, LeavesRegisters, Meets, Steps, stepOf}
+use Rattle.apply.specs.declared.End.{End}
+use Rattle.apply.specs.declared.Stepped.{Stepped}
+use Rattle.apply.specs.declared.Turned.{Turned}
+use Rattle.apply.specs.Apply.{turnedOf, LeavesRegisters, Meets}
+use Rattle.cpu.specs.Step.{Steps, stepOf}
 use Rattle.cpu.proofs.Raising.{raise-unchanged}
 
 -- a turn that goes on has made the step

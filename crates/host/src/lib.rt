@@ -3,7 +3,7 @@ ghost use Prim.Native.Nat.{_+_, _^_, _≤_};
 ghost use lib.ListN.{length};
 ghost use Rattle.running.specs.Run.{ranOf, Leaves};
 ghost use Rattle.running.specs.Call.{Runs};
-use cpu::Turned;
+use apply::Turned;
 use place::Window;
 use refuse::Verdict;
 use session::Outcome;

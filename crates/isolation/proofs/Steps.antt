@@ -22,10 +22,11 @@ use Rattle.fault.specs.declared.Fault.{Fault}
 use Rattle.memory.specs.Memory.{loadWidthOf, extendedOf, loadedOf, storedOf}
 use Rattle.effect.specs.declared.Effect.{Effect}
 use Rattle.effect.specs.Effect.{effectOf}
-use Rattle.cpu.specs.declared.Access.{Access}
+use Rattle.apply.specs.declared.Access.{Access}
 use Rattle.cpu.specs.declared.Fetched.{Fetched}
-use Rattle.cpu.specs.declared.Stepped.{Stepped}
-use Rattle.cpu.specs.Step.{accessOf, loadOf, storeOf, applyOf, fetchOf, stepDecoded, stepFetched, stepOf}
+use Rattle.apply.specs.declared.Stepped.{Stepped}
+use Rattle.apply.specs.Apply.{accessOf, loadOf, storeOf, applyOf}
+use Rattle.cpu.specs.Step.{fetchOf, stepDecoded, stepFetched, stepOf}
 use Rattle.isolation.proofs.Twins.{Twins}
 
 module _ (v w : Window) (same : v .len ≡ w .len) where

@@ -6,9 +6,10 @@ use native.Mathlib.Omega.{arith}
 use Rattle.place.specs.declared.GuestAddr.{GuestAddr}
 use Rattle.place.specs.declared.Window.{Window}
 use Rattle.fault.specs.declared.Fault.{Fault}
-use Rattle.cpu.specs.declared.End.{End}
-use Rattle.cpu.specs.declared.Stepped.{Stepped}
-use Rattle.cpu.specs.Step.{done, raised, stepOf}
+use Rattle.apply.specs.declared.End.{End}
+use Rattle.apply.specs.declared.Stepped.{Stepped}
+use Rattle.apply.specs.Apply.{done, raised}
+use Rattle.cpu.specs.Step.{stepOf}
 use Rattle.session.specs.declared.Stop.{Stop}
 use Rattle.running.specs.Run.{Went, stopped, counted}
 use Rattle.running.proofs.Every.{of-run}

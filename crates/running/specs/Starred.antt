@@ -20,7 +20,8 @@ use Rattle.opcode.specs.Decode.{decodeOf}
 use Rattle.registers.specs.Registers.{reg, written}
 use Rattle.memory.specs.Memory.{loadedOf}
 use Rattle.effect.specs.Effect.{effectOf}
-use Rattle.cpu.specs.Step.{fetchOf, accessOf, applyOf, stepOf}
+use Rattle.apply.specs.Apply.{accessOf, applyOf}
+use Rattle.cpu.specs.Step.{fetchOf, stepOf}
 use Rattle.fault.specs.Fault.{toldOf}
 use Rattle.session.specs.declared.Session.{Session}
 use Rattle.session.specs.declared.Note.{Note}

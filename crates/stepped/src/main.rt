@@ -13,8 +13,8 @@ mod differ;
 mod given;
 mod tally;
 
-use cpu::End;
-use cpu::Stepped;
+use apply::End;
+use apply::Stepped;
 use fault::Telling;
 use libc::STDIN_FILENO;
 use libc::STDOUT_FILENO;

@@ -28,11 +28,12 @@ use Rattle.control.specs.Control.{passesOf}
 use Rattle.operate.specs.Operate.{nextOf}
 use Rattle.effect.specs.declared.Effect.{Effect}
 use Rattle.effect.specs.Effect.{effectOf}
-use Rattle.cpu.specs.declared.Access.{Access}
-use Rattle.cpu.specs.declared.End.{End}
+use Rattle.apply.specs.declared.Access.{Access}
+use Rattle.apply.specs.declared.End.{End}
 use Rattle.cpu.specs.declared.Fetched.{Fetched}
-use Rattle.cpu.specs.declared.Stepped.{Stepped}
-use Rattle.cpu.specs.Step.{accessIn, accessOf, loadOf, storeOf, applyOf, fetchOf, stepOf, fetchedAt, stepDecoded, stepFetched}
+use Rattle.apply.specs.declared.Stepped.{Stepped}
+use Rattle.apply.specs.Apply.{accessIn, accessOf, loadOf, storeOf, applyOf}
+use Rattle.cpu.specs.Step.{fetchOf, stepOf, fetchedAt, stepDecoded, stepFetched}
 use Rattle.stepping.specs.Stepping.{InCode, AdefRaised, AdefOnly, wordAt, IneRaised, IneOnly, early, ExistingIsLate}
 
 -- inside code the word is fetched

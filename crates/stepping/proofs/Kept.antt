@@ -16,7 +16,7 @@ use Rattle.bytes.proofs.Numbers.{length-put, put-below, put-above}
 use Rattle.registers.specs.Registers.{reg}
 use Rattle.registers.proofs.Zero.{zero-kept}
 use Rattle.memory.specs.Memory.{storedOf}
-use Rattle.cpu.specs.declared.Stepped.{Stepped}
+use Rattle.apply.specs.declared.Stepped.{Stepped}
 use Rattle.cpu.proofs.Cases.{of-step}
 use Rattle.cpu.proofs.Raising.{raise-unchanged}
 use Rattle.stepping.specs.Stepping.{RaisingChangesNothing, ZeroStays, LengthStays, OutsideStays}

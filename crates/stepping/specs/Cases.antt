@@ -15,9 +15,10 @@ use Rattle.fault.specs.declared.Fault.{Fault}
 use Rattle.fault.specs.declared.Fault.the-variants.{Adem, Ale, Bce, Syscall, Break, Ine}
 use Rattle.memory.specs.Memory.{loadedOf, storedOf}
 use Rattle.effect.specs.Effect.{effectOf}
-use Rattle.cpu.specs.declared.End.{End}
-use Rattle.cpu.specs.declared.Stepped.{Stepped}
-use Rattle.cpu.specs.Step.{fetchOf, accessOf, applyOf, stepOf}
+use Rattle.apply.specs.declared.End.{End}
+use Rattle.apply.specs.declared.Stepped.{Stepped}
+use Rattle.apply.specs.Apply.{accessOf, applyOf}
+use Rattle.cpu.specs.Step.{fetchOf, stepOf}
 
 abbrev arena : List ℕ
 arena = 0xe0 ∷ 0xe1 ∷ 0xe2 ∷ 0 ∷ 1 ∷ 2 ∷ 3 ∷ 4 ∷ 5 ∷ 6 ∷ 7 ∷ 8 ∷ 9 ∷ 10 ∷ 11 ∷ 12 ∷ 13 ∷ 14 ∷ 0x8f ∷ 0xf3 ∷ 0xf4 ∷ 0xf5 ∷ 0xf6 ∷ 0xf7 ∷ []

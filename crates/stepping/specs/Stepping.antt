@@ -14,8 +14,8 @@ use Rattle.opcode.specs.Decode.{decodeOf}
 use Rattle.registers.specs.Registers.{reg}
 use Rattle.fault.specs.declared.Fault.{Fault}
 use Rattle.fault.specs.declared.Fault.the-variants.{Adef, Adem, Ale, Bce, Syscall, Break, Ine}
-use Rattle.cpu.specs.declared.End.{End}
-use Rattle.cpu.specs.declared.Stepped.{Stepped}
+use Rattle.apply.specs.declared.End.{End}
+use Rattle.apply.specs.declared.Stepped.{Stepped}
 use Rattle.cpu.specs.Step.{stepOf}
 
 -- a property of a step: of its code, window, registers, pc, arena, and of what it leaves

@@ -6,9 +6,9 @@ use borrow.Author.Needs.{needs}
 use Rattle.place.specs.declared.GuestAddr.{GuestAddr}
 use Rattle.place.specs.declared.Window.{Window}
 use Rattle.isa.specs.declared.Decoded.{Decoded}
-use Rattle.opcode.specs.Decode.{decodeOf}
 use Rattle.asked.specs.Asked.{askedOf}
-use Rattle.cpu.specs.Step.{applyOf, stepDecoded, stepOf}
+use Rattle.apply.specs.Apply.{applyOf}
+use Rattle.cpu.specs.Step.{stepDecoded, stepOf}
 use Rattle.cpu.proofs.turn.Statement.{statement}
 use Rattle.cpu.proofs.turn.Tie as tie
 

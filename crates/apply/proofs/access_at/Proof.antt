@@ -1,12 +1,12 @@
--- `cpu::access_at` meets its contract. Assumes nothing.
+-- `apply::access_at` meets its contract. Assumes nothing.
 use mathlib.Core.Path.{refl}
 use native.Mathlib.Omega.{arith}
 use borrow.Author.Needs.{needs}
 use borrow.Author.Tests.{eq-eqb, ne-eqb}
 use Rattle.place.proofs.Reach.{bytes-small}
-use Rattle.cpu.specs.Step.{accessOf}
-use Rattle.cpu.proofs.access_at.Statement.{statement}
-use Rattle.cpu.proofs.access_at.Tie as tie
+use Rattle.apply.specs.Apply.{accessOf}
+use Rattle.apply.proofs.access_at.Statement.{statement}
+use Rattle.apply.proofs.access_at.Tie as tie
 
 rem-if1 : tie.Need-rem-if1
 rem-if1 c =

@@ -12,8 +12,8 @@ use Rattle.place.specs.declared.Window.{Window}
 use Rattle.place.specs.Place.{bytesOf, locateOf}
 use Rattle.place.proofs.Reach.{located-inside}
 use Rattle.fault.specs.declared.Fault.{Fault}
-use Rattle.cpu.specs.declared.Access.{Access}
-use Rattle.cpu.specs.Step.{accessIn, accessOf}
+use Rattle.apply.specs.declared.Access.{Access}
+use Rattle.apply.specs.Apply.{accessIn, accessOf}
 
 -- it lies in the window, all of it
 pub access-inside : (w : Window) (a : GuestAddr) (k : Width) (o : ArenaOffset) → accessOf w a k ≡ Access.At o

@@ -1,11 +1,11 @@
--- `cpu::apply` meets its contract, an effect a line. Assumes nothing.
+-- `apply::apply` meets its contract, an effect a line. Assumes nothing.
 use mathlib.Core.Path.{refl, sym, _∙_}
 use native.Mathlib.Omega.{arith}
 use borrow.Author.Needs.{needs}
-use Rattle.cpu.specs.Step.{applyOf}
-use Rattle.cpu.proofs.Accesses.{access-inside}
-use Rattle.cpu.proofs.apply.Statement.{statement}
-use Rattle.cpu.proofs.apply.Tie as tie
+use Rattle.apply.specs.Apply.{applyOf}
+use Rattle.apply.proofs.Accesses.{access-inside}
+use Rattle.apply.proofs.apply.Statement.{statement}
+use Rattle.apply.proofs.apply.Tie as tie
 
 read-requires : tie.Need-read-requires
 read-requires c κs =
