@@ -1,1 +1,3 @@
 pub mod Accesses
+pub mod Cases
+pub mod Unmoved

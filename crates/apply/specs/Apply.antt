@@ -63,3 +63,12 @@ LeavesRegisters (Turned.Raised f) gr want = Unit {0}
 
 abbrev pub Meets : Turned → List ℕ → List ℕ → Stepped × List ℕ → Type 0
 Meets t gr arena s = (t ≡ turnedOf (s .0 .end) (s .0 .pc)) × (arena ≡ s .1) × LeavesRegisters t gr (s .0 .regs)
+
+-- "A raising instruction changes nothing, pc included": of every effect. The proof is in proofs/Unmoved.antt.
+abbrev pub Unmoved : List ℕ → GuestAddr → List ℕ → Stepped × List ℕ → Type 0
+Unmoved gr pc arena s = (s .0 .regs ≡ gr) × (s .0 .pc ≡ pc) × (s .1 ≡ arena)
+
+abbrev pub RaisingMovesNothing : Type 0
+RaisingMovesNothing =
+    (w : Window) (e : Effect) (gr : List ℕ) (pc : GuestAddr) (arena : List ℕ) (f : Fault)
+    → applyOf w e gr pc arena .0 .end ≡ End.Raised f → Unmoved gr pc arena (applyOf w e gr pc arena)

@@ -1,6 +1,5 @@
 -- Every step is one of four: it raises, it writes a register, it only goes on, or it stores in the window. What holds of these four
 -- holds of every step, so that a new instruction reopens nothing that is proved this way.
-use mathlib.Core.Path.{_≡_, refl}
 use mathlib.Core.List.{List}
 use Prim.Native.Nat.{ℕ, _+_, _≤_}
 use Rattle.place.specs.declared.ArenaOffset.{ArenaOffset}
@@ -12,16 +11,14 @@ use Rattle.isa.specs.declared.Decoded.{Decoded}
 use Rattle.opcode.specs.Decode.{decodeOf}
 use Rattle.registers.specs.Registers.{written}
 use Rattle.fault.specs.declared.Fault.{Fault}
-use Rattle.memory.specs.Memory.{loadWidthOf, loadedOf, storedOf}
+use Rattle.memory.specs.Memory.{storedOf}
 use Rattle.operate.specs.Operate.{nextOf}
-use Rattle.effect.specs.declared.Effect.{Effect}
 use Rattle.effect.specs.Effect.{effectOf}
-use Rattle.apply.specs.declared.Access.{Access}
 use Rattle.cpu.specs.declared.Fetched.{Fetched}
 use Rattle.apply.specs.declared.Stepped.{Stepped}
-use Rattle.apply.specs.Apply.{done, raised, loadOf, storeOf, accessOf, applyOf}
+use Rattle.apply.specs.Apply.{done, raised}
 use Rattle.cpu.specs.Step.{fetchOf, stepDecoded, stepFetched, stepOf}
-use Rattle.apply.proofs.Accesses.{access-inside}
+use Rattle.apply.proofs.Cases.{of-effect}
 
 module _ (P : Stepped × List ℕ → Type 0) (w : Window) (gr : List ℕ) (pc : GuestAddr) (arena : List ℕ)
     (raising : (f : Fault) → P (raised f gr pc arena))
@@ -29,24 +26,8 @@ module _ (P : Stepped × List ℕ → Type 0) (w : Window) (gr : List ℕ) (pc :
     (going : (to : GuestAddr) → P (done gr to arena))
     (storing : (k : Width) (o : ArenaOffset) (v : ℕ) → w .start .0 ≤ o .0 → o .0 + bytesOf k ≤ w .start .0 + w .len
     → P (done gr (nextOf pc) (storedOf k o v arena))) where
-  of-effect : (e : Effect) → P (applyOf w e gr pc arena)
-  unfolding applyOf
-  of-effect (Effect.Write rd v to) = writing rd v to
-  of-effect (Effect.Jump to) = going to
-  of-effect (Effect.Load kind rd a) = load (accessOf w a (loadWidthOf kind))
-    where
-      load : (x : Access) → P (loadOf x kind rd gr pc arena)
-      load (Access.At o) = writing rd (loadedOf kind o arena) (nextOf pc)
-      load (Access.Denied f) = raising f
-  of-effect (Effect.Store k v a) = store (accessOf w a k) refl
-    where
-      store : (x : Access) → accessOf w a k ≡ x → P (storeOf x k v gr pc arena)
-      store (Access.At o) e = let i = access-inside w a k o e in storing k o v (i .0) (i .1)
-      store (Access.Denied f) e = raising f
-  of-effect (Effect.Raise f) = raising f
-
   of-decoded : (d : Decoded) (word : ℕ) → P (stepDecoded d word w gr pc arena)
-  of-decoded (Decoded.Known i) word = of-effect (effectOf i gr pc)
+  of-decoded (Decoded.Known i) word = of-effect P w gr pc arena raising writing going storing (effectOf i gr pc)
   of-decoded Decoded.Unknown word = raising (Fault.Ine word)
 
   of-fetched : (x : Fetched) → P (stepFetched x w gr pc arena)

@@ -2,7 +2,6 @@
 use mathlib.Core.Path.{_≡_, refl}
 use mathlib.Core.List.{List}
 use Prim.Native.Nat.{ℕ}
-use native.Mathlib.Omega.{arith}
 use Rattle.place.specs.declared.GuestAddr.{GuestAddr}
 use Rattle.place.specs.declared.Window.{Window}
 use Rattle.fault.specs.declared.Fault.{Fault}
@@ -10,10 +9,8 @@ use Rattle.apply.specs.declared.End.{End}
 use Rattle.apply.specs.declared.Stepped.{Stepped}
 use Rattle.apply.specs.Apply.{raised}
 use Rattle.cpu.specs.Step.{stepOf}
+use Rattle.apply.proofs.Unmoved.{finished}
 use Rattle.cpu.proofs.Cases.{of-step}
-
-finished : {A : Type 0} (f : Fault) → End.Done ≡ End.Raised f → A
-finished f e = let z : _≡_ {A = ℕ} 0 1 = cc in absurd (omega arith)
 
 pub raise-unchanged : (code : List ℕ) (w : Window) (gr : List ℕ) (pc : GuestAddr) (arena : List ℕ) (f : Fault)
     → stepOf code w gr pc arena .0 .end ≡ End.Raised f → stepOf code w gr pc arena ≡ raised f gr pc arena
