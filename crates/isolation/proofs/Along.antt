@@ -8,7 +8,7 @@ use Rattle.session.specs.declared.Session.{Session}
 use Rattle.session.specs.declared.Reply.{Reply}
 use Rattle.isolation.specs.Windows.{OutsideUnchanged}
 use Rattle.isolation.specs.Histories.{Act, run, answer, Foreign, Event, own, other, acted, afterOther, entries, ownActs, ShareNoByte, OthersApart, AllAlike, HistoriesIsolated}
-use Rattle.isolation.proofs.Twins.{Twins, twins, turned}
+use Rattle.isolation.proofs.Twins.{Twins, Same, twins, turned}
 use Rattle.isolation.proofs.Isolated.{unchanged, outside-call, same-call, alike}
 
 -- an own act changes nothing outside the window
@@ -28,7 +28,7 @@ other-run v w f A B apart t =
     }
 
 module _ (v w : Window) where
-  same-act : (a : Act) (s : Session) (A B : List ℕ) → Twins v A w B → (acted a v s A .0 ≡ acted a w s B .0) × Twins v (acted a v s A .1) w (acted a w s B .1)
+  same-act : (a : Act) (s : Session) (A B : List ℕ) → Twins v A w B → Same v w (acted a v s A) (acted a w s B)
   same-act (run code budget) s A B t = same-call code v w s budget A B t
   same-act (answer code value) s A B t = (refl, t)
 
@@ -55,7 +55,7 @@ module _ (v w : Window) where
       let ab : a ≡ b = cc in
       let later : ownActs g ≡ ownActs h = cc in
       let x = same-act a s A B t in
-      let both : (acted a v s A .0 ≡ acted b w s B .0) × Twins v (acted a v s A .1) w (acted b w s B .1) = rw (← ab) x in
+      let both : Same v w (acted a v s A) (acted b w s B) = rw (← ab) x in
       let r = acted b w s B .0 .session in
       let i = rest h r (acted a v s A .1) (acted b w s B .1) (both .1) p q later in (
         alike v w A B (acted a v s A) (acted b w s B) both (outside-act a v s A) (outside-act b w s B),

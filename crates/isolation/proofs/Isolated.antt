@@ -25,7 +25,7 @@ use Rattle.running.proofs.Turning.{run-none, run-done, run-raised}
 use Rattle.running.proofs.Every.{of-run}
 use Rattle.isolation.specs.Windows.{Fits, OutsideUnchanged, entry, Alike}
 use Rattle.isolation.specs.OneRun.{RunIsolated, CallIsolated}
-use Rattle.isolation.proofs.Twins.{Twins, twins, same-bytes}
+use Rattle.isolation.proofs.Twins.{Twins, Same, twins, same-bytes}
 use Rattle.isolation.proofs.Steps.{same-step}
 
 -- ---- one arena: nothing outside the window changes
@@ -65,31 +65,27 @@ unfolding placeDue
 placed w arena f = le-ltb (length arena) (w .start .0 + w .len) f
 
 module _ (code : List ℕ) (v w : Window) where
-  -- a run comes to the same, and the windows are equal after it
-  abbrev SameRun : Went × List ℕ → Went × List ℕ → Type 0
-  SameRun x y = (x .0 ≡ y .0) × Twins v (x .1) w (y .1)
-
   ended : (s : Stepped × List ℕ) (x : Stepped) → x ≡ s .0 → s ≡ (x, s .1)
   ended s x e = rw e refl
 
-  same-run : (n : ℕ) (gr : List ℕ) (pc : GuestAddr) (A B : List ℕ) → Twins v A w B → SameRun (runOf code v n gr pc A) (runOf code w n gr pc B)
+  same-run : (n : ℕ) (gr : List ℕ) (pc : GuestAddr) (A B : List ℕ) → Twins v A w B → Same v w (runOf code v n gr pc A) (runOf code w n gr pc B)
   same-run n gr pc A B t =
-      of-run code v (λ n gr pc A r. (B : List ℕ) → Twins v A w B → SameRun r (runOf code w n gr pc B))
+      of-run code v (λ n gr pc A r. (B : List ℕ) → Twins v A w B → Same v w r (runOf code w n gr pc B))
       (λ gr pc A B t. rw (run-none code w 0 gr pc B refl) (refl, t))
       raises
       completes
       n gr pc A B t
     where
       raises : (n : ℕ) (gr : List ℕ) (pc : GuestAddr) (A : List ℕ) (f : Fault) → stepOf code v gr pc A ≡ raised f gr pc A → (B : List ℕ) → Twins v A w B
-          → SameRun (stopped (Stop.Raised f) gr pc A) (runOf code w (suc n) gr pc B)
+          → Same v w (stopped (Stop.Raised f) gr pc A) (runOf code w (suc n) gr pc B)
       raises n gr pc A f d B t =
           let s = same-step v w gr pc A B t code in
           let e : stepOf code w gr pc B .0 .end ≡ End.Raised f = ap (λ (x : Stepped). x .end) (sym (s .0)) ∙ ap (λ (x : Stepped × List ℕ). x .0 .end) d in
           rw (run-raised code w n gr pc B f gr pc B (raise-unchanged code w gr pc B f e)) (refl, t)
 
       completes : (n : ℕ) (gr : List ℕ) (pc : GuestAddr) (A : List ℕ) (gr₁ : List ℕ) (pc₁ : GuestAddr) (A₁ : List ℕ) (r : Went × List ℕ)
-          → stepOf code v gr pc A ≡ done gr₁ pc₁ A₁ → ((B : List ℕ) → Twins v A₁ w B → SameRun r (runOf code w n gr₁ pc₁ B)) → (B : List ℕ) → Twins v A w B
-          → SameRun (counted 1 r) (runOf code w (suc n) gr pc B)
+          → stepOf code v gr pc A ≡ done gr₁ pc₁ A₁ → ((B : List ℕ) → Twins v A₁ w B → Same v w r (runOf code w n gr₁ pc₁ B)) → (B : List ℕ) → Twins v A w B
+          → Same v w (counted 1 r) (runOf code w (suc n) gr pc B)
       completes n gr pc A gr₁ pc₁ A₁ r d rest B t =
           let s = same-step v w gr pc A B t code in
           let B₁ = stepOf code w gr pc B .1 in
@@ -99,11 +95,7 @@ module _ (code : List ℕ) (v w : Window) where
           let q = rest B₁ u in
           rw (run-done code w n gr pc B gr₁ pc₁ B₁ e) (rw (q .0) refl, q .1)
 
-  -- the same reply, from the same run
-  abbrev pub SameReply : Reply × List ℕ → Reply × List ℕ → Type 0
-  SameReply x y = (x .0 ≡ y .0) × Twins v (x .1) w (y .1)
-
-  same-ran : (s : Session) (budget : ℕ) (A B : List ℕ) → Twins v A w B → SameReply (ranOf code v s budget A) (ranOf code w s budget B)
+  same-ran : (s : Session) (budget : ℕ) (A B : List ℕ) → Twins v A w B → Same v w (ranOf code v s budget A) (ranOf code w s budget B)
   unfolding ranOf
   same-ran s budget A B t = let q = same-run budget (s .regs) (s .pc) A B t in (rw (q .0) refl, q .1)
 
@@ -116,17 +108,17 @@ module _ (code : List ℕ) (v w : Window) where
       → verdictOf (runTests (length code) (length A) v s budget) ≡ verdictOf (runTests (length code) (length B) w s budget)
   same-verdict s budget A B t = rw (same-window-due (t .lengths), placed v A (t .fits-A), placed w B (t .fits-B)) refl
 
-  pub same-call : (s : Session) (budget : ℕ) (A B : List ℕ) → Twins v A w B → SameReply (hostRunOf code v s budget A) (hostRunOf code w s budget B)
+  pub same-call : (s : Session) (budget : ℕ) (A B : List ℕ) → Twins v A w B → Same v w (hostRunOf code v s budget A) (hostRunOf code w s budget B)
   unfolding hostRunOf
   same-call s budget A B t = rw (same-verdict s budget A B t) (go (verdictOf (runTests (length code) (length B) w s budget)))
     where
-      go : (x : Verdict) → SameReply (judged x s A (ranOf code v s budget A)) (judged x s B (ranOf code w s budget B))
+      go : (x : Verdict) → Same v w (judged x s A (ranOf code v s budget A)) (judged x s B (ranOf code w s budget B))
       go Verdict.Accepted = same-ran s budget A B t
       go (Verdict.Refused r) = (refl, t)
 
 -- ---- the statements
 
-pub alike : (v w : Window) (A B : List ℕ) (x y : Reply × List ℕ) → (x .0 ≡ y .0) × Twins v (x .1) w (y .1)
+pub alike : (v w : Window) (A B : List ℕ) (x y : Reply × List ℕ) → Same v w x y
     → OutsideUnchanged v A (x .1) → OutsideUnchanged w B (y .1) → Alike v w (entry A x) (entry B y)
 alike v w A B x y s p q =
     record {

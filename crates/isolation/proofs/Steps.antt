@@ -24,10 +24,9 @@ use Rattle.effect.specs.declared.Effect.{Effect}
 use Rattle.effect.specs.Effect.{effectOf}
 use Rattle.apply.specs.declared.Access.{Access}
 use Rattle.cpu.specs.declared.Fetched.{Fetched}
-use Rattle.apply.specs.declared.Stepped.{Stepped}
 use Rattle.apply.specs.Apply.{accessOf, loadOf, storeOf, applyOf}
 use Rattle.cpu.specs.Step.{fetchOf, stepDecoded, stepFetched, stepOf}
-use Rattle.isolation.proofs.Twins.{Twins}
+use Rattle.isolation.proofs.Twins.{Twins, Same}
 
 module _ (v w : Window) (same : v .len ≡ w .len) where
   -- an access in two windows of one length: denied alike, or let through to the same place in each
@@ -91,36 +90,32 @@ module _ (v w : Window) where
           let s = t .lengths in
           rw (x, y) (put-ext (bytesOf k) (v .start .0 + d) (w .start .0 + d) value A B (omega arith) (omega arith) (i - d) (omega arith))
 
-  -- how a step ended, and the windows afterwards
-  abbrev pub SameStep : Stepped × List ℕ → Stepped × List ℕ → Type 0
-  SameStep x y = (x .0 ≡ y .0) × Twins v (x .1) w (y .1)
-
   module _ (gr : List ℕ) (pc : GuestAddr) (A B : List ℕ) (t : Twins v A w B) where
-    of-effect : (e : Effect) → SameStep (applyOf v e gr pc A) (applyOf w e gr pc B)
+    of-effect : (e : Effect) → Same v w (applyOf v e gr pc A) (applyOf w e gr pc B)
     unfolding applyOf
     of-effect (Effect.Write rd value to) = (refl, t)
     of-effect (Effect.Jump to) = (refl, t)
     of-effect (Effect.Load kind rd a) = load (both v w (t .lengths) a (loadWidthOf kind))
       where
         load : Both v w (t .lengths) a (loadWidthOf kind)
-            → SameStep (loadOf (accessOf v a (loadWidthOf kind)) kind rd gr pc A) (loadOf (accessOf w a (loadWidthOf kind)) kind rd gr pc B)
+            → Same v w (loadOf (accessOf v a (loadWidthOf kind)) kind rd gr pc A) (loadOf (accessOf w a (loadWidthOf kind)) kind rd gr pc B)
         load (denied f p q) = rw (p, q) (refl, t)
         load (reached d h p q) = rw (p, q) (rw (loads A B t kind d h) refl, t)
     of-effect (Effect.Store k value a) = store (both v w (t .lengths) a k)
       where
-        store : Both v w (t .lengths) a k → SameStep (storeOf (accessOf v a k) k value gr pc A) (storeOf (accessOf w a k) k value gr pc B)
+        store : Both v w (t .lengths) a k → Same v w (storeOf (accessOf v a k) k value gr pc A) (storeOf (accessOf w a k) k value gr pc B)
         store (denied f p q) = rw (p, q) (refl, t)
         store (reached d h p q) = rw (p, q) (refl, stores A B t k value d h)
     of-effect (Effect.Raise f) = (refl, t)
 
-    of-decoded : (d : Decoded) (word : ℕ) → SameStep (stepDecoded d word v gr pc A) (stepDecoded d word w gr pc B)
+    of-decoded : (d : Decoded) (word : ℕ) → Same v w (stepDecoded d word v gr pc A) (stepDecoded d word w gr pc B)
     of-decoded (Decoded.Known i) word = of-effect (effectOf i gr pc)
     of-decoded Decoded.Unknown word = (refl, t)
 
-    of-fetched : (x : Fetched) → SameStep (stepFetched x v gr pc A) (stepFetched x w gr pc B)
+    of-fetched : (x : Fetched) → Same v w (stepFetched x v gr pc A) (stepFetched x w gr pc B)
     of-fetched (Fetched.Word word) = of-decoded (decodeOf word) word
     of-fetched Fetched.Bad = (refl, t)
 
-    pub same-step : (code : List ℕ) → SameStep (stepOf code v gr pc A) (stepOf code w gr pc B)
+    pub same-step : (code : List ℕ) → Same v w (stepOf code v gr pc A) (stepOf code w gr pc B)
     unfolding stepOf
     same-step code = of-fetched (fetchOf code pc)

@@ -14,6 +14,10 @@ pub record Twins (v : Window) (A : List ℕ) (w : Window) (B : List ℕ) : Type 
   pub lengths : v .len ≡ w .len
   pub byte : (k : ℕ) → k < v .len → getD A (v .start .0 + k) 0 ≡ getD B (w .start .0 + k) 0
 
+-- what is done in the two arenas comes to the same, and the windows are equal after it
+abbrev pub Same : {R : Type 0} → Window → Window → R × List ℕ → R × List ℕ → Type 0
+Same v w x y = (x .0 ≡ y .0) × Twins v (x .1) w (y .1)
+
 -- a byte of the window is the arena's
 in-place : (w : Window) (arena : List ℕ) (k : ℕ) → k < w .len → getD (bytesIn w arena) k 0 ≡ getD arena (w .start .0 + k) 0
 in-place w arena k h = getD-take (w .len) (drop (w .start .0) arena) k 0 h ∙ getD-drop (w .start .0) arena k 0
