@@ -1,5 +1,5 @@
 -- Little-endian numbers of n bytes in a list of bytes, for every n (01: "All data is little-endian").
-use Prim.Native.Nat.{ℕ, zero, suc, _+_, _*_, _/_, _%_}
+use Prim.Native.Nat.{ℕ, zero, suc, _+_, _*_, _/_, _%_, _<_}
 use mathlib.Core.List.{List, [], _∷_}
 use lib.ListN.{getD, set}
 
@@ -17,3 +17,7 @@ putLE (suc n) at v s = putLE n (suc at) (v / 256) (set s at (v % 256))
 unfoldable pub bytesLE : ℕ → ℕ → List ℕ
 bytesLE zero v = []
 bytesLE (suc n) v = v % 256 ∷ bytesLE n (v / 256)
+
+-- every element is a byte
+abbrev pub AreBytes : List ℕ → Type 0
+AreBytes s = (i : ℕ) → getD s i 0 < 256

@@ -51,6 +51,11 @@ abbrev pub verdictOf : List Test → Verdict
 verdictOf [] = Verdict.Accepted
 verdictOf (t ∷ ts) = cond (t .due) (Verdict.Refused (t .refusal)) (verdictOf ts)
 
+-- a verdict by 01's numbers: the refusal's, or 0
+abbrev pub refusedOf : Verdict → ℕ
+refusedOf Verdict.Accepted = 0
+refusedOf (Verdict.Refused r) = numberOf r
+
 -- "Lowest of 1 to 6 first for a run."
 abbrev pub runTests : ℕ → ℕ → Window → Session → ℕ → List Test
 runTests code arena w s budget =

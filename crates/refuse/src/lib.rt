@@ -1,7 +1,7 @@
 // The tests that a run and an answer make before anything changes. Each decides on whole numbers: no sum here can wrap.
 ghost use mathlib.Core.Path.{_≡_};
 ghost use Prim.Native.Nat.{_<_};
-ghost use Rattle.refuse.specs.Refusals.{codeDue, windowDue, placeDue, zeroDue, budgetDue, totalDue, verdictOf, runTests};
+ghost use Rattle.refuse.specs.Refusals.{codeDue, windowDue, placeDue, zeroDue, budgetDue, totalDue, verdictOf, refusedOf, runTests};
 use place::CodeOffset;
 use place::Window;
 use session::Refusal;
@@ -11,6 +11,16 @@ use session::Session;
 pub enum Verdict {
     Accepted,
     Refused(Refusal),
+}
+
+// A verdict by 01's numbers: 0 is "not refused".
+pub fn number(verdict: Verdict) -> u64
+    ensures { λ r. ⌜ r ≡ refusedOf verdict ⌝ }
+{
+    match verdict {
+        Verdict::Accepted => 0,
+        Verdict::Refused(refusal) => session::number(refusal),
+    }
 }
 
 pub fn code_due(len: usize) -> bool

@@ -53,6 +53,10 @@ pub enum Refusal {
     Budget,
     Total,
     NoSyscall,
+    FileKind,
+    FileCut,
+    FileExtra,
+    BufferLength,
 }
 
 pub enum Outcome {
@@ -85,6 +89,10 @@ pub fn number(refusal: Refusal) -> u64
         Refusal::Budget => 5,
         Refusal::Total => 6,
         Refusal::NoSyscall => 7,
+        Refusal::FileKind => 11,
+        Refusal::FileCut => 12,
+        Refusal::FileExtra => 13,
+        Refusal::BufferLength => 14,
     }
 }
 

@@ -1,0 +1,43 @@
+-- Whatever session comes into a function fits: this reads what owning it tells (`c .good`).
+use mathlib.Core.Path.{_≡_, refl, ap}
+use mathlib.Core.List.{List, [], _∷_, map}
+use Prim.Native.Nat.{ℕ, zero, suc, _<_, _^_}
+use native.Mathlib.Omega.{arith}
+use lib.ListN.{length, getD}
+use mir.Val.{Val}
+use denote.Laws.{Is}
+use denote.Shadow.{shadow}
+use denote.Array.{each}
+use denote.Struct.Field.{u64-field}
+use denote.Struct.Declared.{row}
+use Rattle.session.proofs.Session.{the-type}
+use Rattle.session.proofs.Note.{the-field}
+use Rattle.session.specs.declared.Session.{Session}
+use Rattle.session.specs.declared.Note.{Note}
+use Rattle.file.specs.Fit.{Fit, NoteFit}
+
+each-lt : (xs : List ℕ) (us : List Val) → shadow (each ℕ (u64-field .row .own) xs us) → (i : ℕ) → getD xs i 0 < 2 ^ 64
+each-lt [] us h i = omega arith
+each-lt (x ∷ xs) [] h i = absurd h
+each-lt (x ∷ xs) (u ∷ us) h zero = h .0 .1
+each-lt (x ∷ xs) (u ∷ us) h (suc i) = each-lt xs us (h .1) i
+
+map-same : (xs : List ℕ) → map (λ x. x) xs ≡ xs
+map-same [] = refl
+map-same (x ∷ xs) = ap (λ r. x ∷ r) (map-same xs)
+
+note-fits : (n : Note) (vs : List Val) → shadow (the-field .row .own (the-field .into n) vs) → NoteFit n
+note-fits Note.Absent vs h = tt
+note-fits (Note.Present low high) vs h = (h .1 .1 .1 .1 .0 .1, h .1 .1 .1 .1 .1 .0 .1)
+
+pub session-fits : (s : Session) (vs : List Val) → Is (row the-type) s vs → Fit s
+session-fits s vs h =
+    let count : length (map (λ x. x) (s .regs)) ≡ 32 = h .1 .1 .0 .1 .0 .1 in
+    let regs : (i : ℕ) → getD (map (λ x. x) (s .regs)) i 0 < 2 ^ 64 = each-lt (map (λ x. x) (s .regs)) _ (h .1 .1 .0 .1 .1) in
+    record {
+      count = rw map-same at count;
+      regs = rw map-same at regs;
+      pc = h .1 .1 .1 .0 .1 .1 .0 .1;
+      total = h .1 .1 .1 .1 .0 .1;
+      note = note-fits (s .note) _ (h .1 .1 .1 .1 .1 .0);
+    }

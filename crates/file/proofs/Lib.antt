@@ -1,0 +1,6 @@
+pub mod Lengths
+pub mod Fits
+pub mod Walk
+pub mod There
+pub mod Back
+pub mod RoundTrip

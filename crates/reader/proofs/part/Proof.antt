@@ -1,0 +1,15 @@
+-- `reader::part` meets its contract. Assumes nothing.
+use mathlib.Core.Path.{refl}
+use borrow.Author.Needs.{needs}
+use Rattle.reader.proofs.part.Statement.{statement}
+use Rattle.reader.proofs.part.Tie as tie
+
+pub part-spec : {M : Type 1} → statement M
+part-spec =
+    tie.close
+    (tie.spec
+    (λ c. search needs)
+    (λ c κs. search needs)
+    (λ c. search needs)
+    (λ c. rw (c .before .before .progress .given .1, c .due .ensures) refl)
+    (λ c. rw (c .before .progress2 .given .1) refl))
