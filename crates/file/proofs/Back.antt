@@ -21,9 +21,10 @@ use Rattle.file.specs.declared.Progress.{Progress}
 use Rattle.file.specs.declared.Reading.{Reading}
 use Rattle.file.specs.Format.{bytesOfEach, numbersAt, pcRow, registersRow, totalRow, noteRow, endRow}
 use Rattle.file.specs.Writing.{partBytes, fileOf}
+use Rattle.file.specs.Edges.{Meets}
 use Rattle.file.specs.Reading.{takenOf, rowOf, stands, extraOf, readingOf, parsedOf, hostReadOf}
 use Rattle.file.proofs.Lengths.{part-present}
-use Rattle.file.proofs.Walk.{on, off, due-cases, note-cases}
+use Rattle.file.proofs.Walk.{on, off, coreOf, coreBytes, due-cases, note-cases}
 
 -- numbers that were read have the bytes that stand there
 numbers-back : (k : ℕ) (f : List ℕ) (at : ℕ) → AreBytes f → at + 8 * k ≤ length f → drop at f ≡ bytesOfEach (numbersAt k at f) ++ drop (at + 8 * k) f
@@ -60,9 +61,9 @@ note-back f at s h e l =
 -- To show G of kinds 1 to 4, read from `at` on: show it of every session s whose parts stand there, and of every refusal.
 pub core-cases : (G : Cursor → Type 0) (f : List ℕ) → AreBytes f → (at : ℕ)
     → ((s : Session) (q : ℕ) → getD (s .regs) 0 0 ≡ 0
-    → drop at f ≡ partBytes pcRow s ++ (partBytes registersRow s ++ (partBytes totalRow s ++ (partBytes noteRow s ++ drop q f))) → G (on q s))
-    → ((x : Refusal) (o : ℕ) (s : Session) → G (off x o s))
-    → G (rowOf noteRow f (rowOf totalRow f (rowOf registersRow f (rowOf pcRow f (on at freshOf)))))
+    → drop at f ≡ coreBytes s (drop q f) → G (on q s))
+    → ((x : Refusal) (o : ℕ) (s : Session) → Meets f x o → G (off x o s))
+    → G (coreOf f (on at freshOf))
 unfolding stands
 core-cases G f h at stood refused =
     due-cases (λ (p : Progress). G (rowOf noteRow f (rowOf totalRow f (rowOf registersRow f (takenOf pcRow f p freshOf))))) 1 8 f at
@@ -110,7 +111,7 @@ pub record Kept (f : List ℕ) (r : Reading) : Type 0 where
 
 -- the end mark, and nothing behind it
 ended : (f : List ℕ) (s : Session) (q : ℕ) → getD (s .regs) 0 0 ≡ 0
-    → drop 0 f ≡ partBytes pcRow s ++ (partBytes registersRow s ++ (partBytes totalRow s ++ (partBytes noteRow s ++ drop q f)))
+    → drop 0 f ≡ coreBytes s (drop q f)
     → getD f q 0 ≡ 5 → q + 1 + 0 ≤ length f → length f ≤ q + 1 + 0
     → Kept f (record { verdict = Verdict.Accepted; session = s; offset = q + 1 + 0 })
 unfolding fileOf
@@ -119,24 +120,26 @@ ended f s q z e k l m =
     let none : drop (q + 1 + 0) f ≡ [] = drop-of-length-le f m in
     record { file = sym (rw (last, none) at e); zero = z; whole = omega arith }
 
-pub kept : (f : List ℕ) → AreBytes f → hostReadOf f .verdict ≡ Verdict.Accepted → Kept f (hostReadOf f)
+-- To show G of every reading: show it where f is the file of a session, read to its end, and of every refusal.
+pub read-cases : (G : Reading → Type 0) (f : List ℕ) → AreBytes f → ((r : Reading) → r .verdict ≡ Verdict.Accepted → Kept f r → G r)
+    → ((x : Refusal) (o : ℕ) → Meets f x o → G (record { verdict = Verdict.Refused x; session = freshOf; offset = o }))
+    → G (hostReadOf f)
 unfolding hostReadOf parsedOf extraOf
-kept f h =
-    core-cases (λ (c : Cursor). let e = rowOf endRow f c in Shown (extraOf f (e .progress)) (e .session)) f h 0
-    (λ s q z e. due-cases (λ (p : Progress). let c = takenOf endRow f p s in Shown (extraOf f (c .progress)) (c .session)) 5 0 f q
+read-cases G f h accepted refused =
+    core-cases (λ (c : Cursor). let e = rowOf endRow f c in G (readingOf (extraOf f (e .progress)) (e .session))) f h 0
+    (λ s q z e. due-cases (λ (p : Progress). let c = takenOf endRow f p s in G (readingOf (extraOf f (c .progress)) (c .session))) 5 0 f q
     (λ k l. end s q z e k l (ltb (q + 1 + 0) (length f)) refl)
-    (λ x o. refused x o s))
-    refused
+    refused)
+    (λ x o s. refused x o)
   where
-    Shown : Progress → Session → Type 0
-    Shown p s = readingOf p s .verdict ≡ Verdict.Accepted → Kept f (readingOf p s)
-
-    refused : (x : Refusal) (o : ℕ) (s : Session) → Shown (Progress.Refused x o) s
-    refused x o s v = absurd (not-accepted x v)
-
-    end : (s : Session) (q : ℕ) → getD (s .regs) 0 0 ≡ 0
-        → drop 0 f ≡ partBytes pcRow s ++ (partBytes registersRow s ++ (partBytes totalRow s ++ (partBytes noteRow s ++ drop q f)))
+    end : (s : Session) (q : ℕ) → getD (s .regs) 0 0 ≡ 0 → drop 0 f ≡ coreBytes s (drop q f)
         → getD f q 0 ≡ 5 → q + 1 + 0 ≤ length f → (b : Bool) → ltb (q + 1 + 0) (length f) ≡ b
-        → Shown (cond b (Progress.Refused FileExtra (q + 1 + 0)) (Progress.At (q + 1 + 0))) s
-    end s q z e k l true x = refused FileExtra (q + 1 + 0) s
-    end s q z e k l false x = λ v. ended f s q z e k l (ltb-false _ _ x)
+        → G (readingOf (cond b (Progress.Refused FileExtra (q + 1 + 0)) (Progress.At (q + 1 + 0))) s)
+    end s q z e k l true x = refused FileExtra (q + 1 + 0) (omega arith, omega arith, l)
+    end s q z e k l false x = accepted _ refl (ended f s q z e k l (ltb-false _ _ x))
+
+pub kept : (f : List ℕ) → AreBytes f → hostReadOf f .verdict ≡ Verdict.Accepted → Kept f (hostReadOf f)
+kept f h =
+    read-cases (λ (r : Reading). r .verdict ≡ Verdict.Accepted → Kept f r) f h
+    (λ r a k v. k)
+    (λ x o m v. absurd (not-accepted x v))

@@ -4,3 +4,4 @@ pub mod Walk
 pub mod There
 pub mod Back
 pub mod RoundTrip
+pub mod Edges

@@ -20,7 +20,7 @@ use Rattle.file.specs.Format.{Row, bytesOfEach, numbersAt, withNote, pcR
 use Rattle.file.specs.Writing.{partBytes, fileOf}
 use Rattle.file.specs.Reading.{dueOf, takenOf, rowOf, extraOf, parsedOf, readingOf, hostReadOf}
 use Rattle.file.proofs.Lengths.{length-registers, length-file}
-use Rattle.file.proofs.Walk.{on, met, note-met, note-passed}
+use Rattle.file.proofs.Walk.{on, coreOf, coreBytes, met, note-met, note-passed}
 
 -- numbers that stand there are read
 word-at : (v : ℕ) (f rest : List ℕ) (at : ℕ) → v < 2 ^ 64 → drop at f ≡ bytesLE 8 v ++ rest → getLE 8 at f ≡ v
@@ -86,9 +86,9 @@ registers-at s h z f rest at e =
 
 -- kinds 1 to 4 that stand at `at`, and another kind than the note's behind them
 pub core-there : (s : Session) → Fit s → getD (s .regs) 0 0 ≡ 0 → (f : List ℕ) (at k : ℕ) (rest : List ℕ) → (k ≡ 4 → ⊥)
-    → drop at f ≡ partBytes pcRow s ++ (partBytes registersRow s ++ (partBytes totalRow s ++ (partBytes noteRow s ++ (k ∷ rest))))
+    → drop at f ≡ coreBytes s (k ∷ rest)
     → let q = at + 1 + 8 + 1 + 248 + 1 + 8 + length (partBytes noteRow s) in
-    (rowOf noteRow f (rowOf totalRow f (rowOf registersRow f (rowOf pcRow f (on at freshOf)))) ≡ on q s) × (drop q f ≡ k ∷ rest)
+    (coreOf f (on at freshOf) ≡ on q s) × (drop q f ≡ k ∷ rest)
 core-there s h z f at k rest x e =
     let p = standing pcRow (bytesLE 8 (s .pc .0)) _ f at freshOf (length-bytes 8 (s .pc .0)) e in
     let t1 = pcRow .taken f (at + 1) freshOf in

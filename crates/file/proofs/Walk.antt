@@ -1,19 +1,21 @@
 -- The reader's walk: where it goes on, and the ways in which it can turn out.
 use mathlib.Core.Path.{_≡_, refl, ap}
 use mathlib.Core.Bool.{Bool, true, false, cond, not}
-use mathlib.Core.List.{List}
+use mathlib.Core.List.{List, _++_}
 use Prim.Native.Nat.{ℕ, _+_, _≤_, _<_}
 use native.Mathlib.Nat.{add-zero}
 use native.Mathlib.Omega.{arith}
 use lib.Dec.{eqb, ltb, leb}
 use lib.ListN.{length, getD}
-use borrow.Author.Tests.{eqb-true, leb-true, eq-eqb, ne-eqb, lt-ltb, le-leb}
+use borrow.Author.Tests.{eqb-true, ltb-true, leb-true, eq-eqb, ne-eqb, lt-ltb, le-leb}
 use Rattle.session.specs.declared.Session.{Session}
 use Rattle.session.specs.declared.Refusal.{Refusal}
 use Rattle.session.specs.declared.Refusal.the-variants.{FileKind, FileCut}
 use Rattle.file.specs.declared.Cursor.{Cursor}
 use Rattle.file.specs.declared.Progress.{Progress}
-use Rattle.file.specs.Format.{noteRow, endRow}
+use Rattle.file.specs.Format.{pcRow, registersRow, totalRow, noteRow, endRow}
+use Rattle.file.specs.Writing.{partBytes}
+use Rattle.file.specs.Edges.{Meets}
 use Rattle.file.specs.Reading.{dueOf, partOf, takenOf, stands, rowOf}
 
 -- the cursor is at `at`, or something was refused there
@@ -23,6 +25,13 @@ on at s = record { progress = Progress.At at; session = s }
 abbrev pub off : Refusal → ℕ → Session → Cursor
 off x at s = record { progress = Progress.Refused x at; session = s }
 
+-- kinds 1 to 4, read one after the other; and written, with more behind them
+abbrev pub coreOf : List ℕ → Cursor → Cursor
+coreOf f c = rowOf noteRow f (rowOf totalRow f (rowOf registersRow f (rowOf pcRow f c)))
+
+abbrev pub coreBytes : Session → List ℕ → List ℕ
+coreBytes s rest = partBytes pcRow s ++ (partBytes registersRow s ++ (partBytes totalRow s ++ (partBytes noteRow s ++ rest)))
+
 -- a part that stands there is met
 pub met : (k n : ℕ) (f : List ℕ) (at : ℕ) → getD f at 0 ≡ k → at + 1 + n ≤ length f → dueOf k n f at ≡ Progress.At (at + 1)
 unfolding dueOf
@@ -30,17 +39,17 @@ met k n f at e h = rw (lt-ltb at (length f) (omega arith), eq-eqb (getD f at 0) 
 
 -- to show G of a part that is due: show it where the part stands there, and of every refusal
 pub due-cases : (G : Progress → Type 0) (k n : ℕ) (f : List ℕ) (at : ℕ)
-    → (getD f at 0 ≡ k → at + 1 + n ≤ length f → G (Progress.At (at + 1))) → ((x : Refusal) (o : ℕ) → G (Progress.Refused x o))
+    → (getD f at 0 ≡ k → at + 1 + n ≤ length f → G (Progress.At (at + 1))) → ((x : Refusal) (o : ℕ) → Meets f x o → G (Progress.Refused x o))
     → G (dueOf k n f at)
 unfolding dueOf
-due-cases G k n f at stood refused = go (ltb at (length f)) (eqb (getD f at 0) k) (leb (at + 1 + n) (length f)) refl refl
+due-cases G k n f at stood refused = go (ltb at (length f)) (eqb (getD f at 0) k) (leb (at + 1 + n) (length f)) refl refl refl
   where
-    go : (a b c : Bool) → eqb (getD f at 0) k ≡ b → leb (at + 1 + n) (length f) ≡ c
+    go : (a b c : Bool) → ltb at (length f) ≡ a → eqb (getD f at 0) k ≡ b → leb (at + 1 + n) (length f) ≡ c
         → G (cond a (cond b (cond c (Progress.At (at + 1)) (Progress.Refused FileCut at)) (Progress.Refused FileKind at)) (Progress.Refused FileCut (length f)))
-    go true true true x y = stood (eqb-true _ _ x) (leb-true _ _ y)
-    go true true false x y = refused FileCut at
-    go true false c x y = refused FileKind at
-    go false b c x y = refused FileCut (length f)
+    go true true true w x y = stood (eqb-true _ _ x) (leb-true _ _ y)
+    go true true false w x y = refused FileCut at (omega arith, omega arith, omega (arith, ltb-true at (length f) w))
+    go true false c w x y = refused FileKind at (omega arith, omega arith, omega (arith, ltb-true at (length f) w))
+    go false b c w x y = refused FileCut (length f) (omega arith, omega arith, omega arith)
 
 -- the note: it stands there, or another kind does
 pub note-met : (f : List ℕ) (at : ℕ) (t : Session) → getD f at 0 ≡ 4 → at + 1 + 16 ≤ length f
@@ -56,7 +65,7 @@ note-passed f at t e h = rw (lt-ltb at (length f) h, ne-eqb (getD f at 0) 4 e) r
 pub note-cases : (G : Cursor → Type 0) (f : List ℕ) (at : ℕ) (t : Session)
     → (getD f at 0 ≡ 4 → at + 1 + 16 ≤ length f → G (on (at + 1 + 16) (noteRow .taken f (at + 1) t)))
     → G (on at t)
-    → ((x : Refusal) (o : ℕ) → G (off x o t))
+    → ((x : Refusal) (o : ℕ) → Meets f x o → G (off x o t))
     → G (rowOf noteRow f (on at t))
 note-cases G f at t stood other refused = go (stands 4 f (Progress.At at))
   where
@@ -69,7 +78,7 @@ pub room : (k n : ℕ) (f : List ℕ) (p : Progress) (q : ℕ) → partOf k n f 
 room k n f (Progress.At at) q e =
     due-cases (λ (p : Progress). p ≡ Progress.At q → q + n ≤ length f) k n f at
     (λ k l e. let z : at + 1 ≡ q = ap offset e in omega arith)
-    (λ x o e. let z : _≡_ {A = ℕ} 0 1 = cc in omega arith)
+    (λ x o m e. let z : _≡_ {A = ℕ} 0 1 = cc in omega arith)
     e
   where
     offset : Progress → ℕ

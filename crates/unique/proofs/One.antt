@@ -3,7 +3,9 @@ use mathlib.Core.Path.{_≡_, refl, sym, _∙_}
 use Rattle.opcode.specs.Decode.{decodeOf}
 use Rattle.running.specs.Call.{hostRunOf}
 use Rattle.service.specs.Answer.{hostAnswerOf}
-use Rattle.unique.specs.Unique.{AtMostOne, RunUnique, AnswerUnique, DecodeUnique}
+use Rattle.file.specs.Writing.{hostWriteOf}
+use Rattle.file.specs.Reading.{hostReadOf}
+use Rattle.unique.specs.Unique.{AtMostOne, RunUnique, AnswerUnique, DecodeUnique, WriteUnique, ReadUnique}
 
 -- what a promise says to be the definition's answer is one answer
 determined : {A : Type 0} {P : A → Type 0} (d : A) → ((x : A) → P x → x ≡ d) → AtMostOne P
@@ -17,3 +19,9 @@ answer-unique code s value = determined (hostAnswerOf code s value) (λ r p. p .
 
 pub decode-unique : DecodeUnique
 decode-unique word = determined (decodeOf word) (λ d p. p)
+
+pub write-unique : WriteUnique
+write-unique s buffer = determined (hostWriteOf s buffer) (λ x p. rw (← p .reply, ← p .bytes) refl)
+
+pub read-unique : ReadUnique
+read-unique f = determined (hostReadOf f) (λ r p. p .reply)

@@ -11,6 +11,9 @@ use Rattle.session.specs.declared.Session.{Session}
 use Rattle.session.specs.declared.Reply.{Reply}
 use Rattle.running.specs.Call.{Runs}
 use Rattle.service.specs.Answer.{Answers}
+use Rattle.file.specs.declared.Written.{Written}
+use Rattle.file.specs.declared.Reading.{Reading}
+use Rattle.file.specs.Promises.{Writes, Reads}
 
 -- at most one answer meets the promise P
 abbrev pub AtMostOne : {A : Type 0} → (A → Type 0) → Type 0
@@ -29,3 +32,11 @@ AnswerUnique = (code : List ℕ) (s : Session) (value : ℕ) → AtMostOne (λ (
 -- decode
 abbrev pub DecodeUnique : Type 0
 DecodeUnique = (word : ℕ) → AtMostOne (λ (d : Decoded). Decodes word d)
+
+-- write: the reply and the buffer afterwards
+abbrev pub WriteUnique : Type 0
+WriteUnique = (s : Session) (buffer : List ℕ) → AtMostOne (λ (x : Written × List ℕ). Writes s buffer (x .0) (x .1))
+
+-- read: verdict, session and offset
+abbrev pub ReadUnique : Type 0
+ReadUnique = (f : List ℕ) → AtMostOne (λ (r : Reading). Reads f r)
