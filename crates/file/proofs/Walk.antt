@@ -16,7 +16,7 @@ use Rattle.file.specs.declared.Progress.{Progress}
 use Rattle.file.specs.Format.{pcRow, registersRow, totalRow, noteRow, endRow}
 use Rattle.file.specs.Writing.{partBytes}
 use Rattle.file.specs.Edges.{Meets}
-use Rattle.file.specs.Reading.{dueOf, partOf, takenOf, stands, rowOf}
+use Rattle.file.specs.Reading.{dueOf, partOf, BodyInside, takenOf, stands, rowOf}
 
 -- the cursor is at `at`, or something was refused there
 abbrev pub on : ℕ → Session → Cursor
@@ -74,17 +74,19 @@ note-cases G f at t stood other refused = go (stands 4 f (Progress.At at))
     go false = other
 
 -- a body that was met lies in the file
-pub room : (k n : ℕ) (f : List ℕ) (p : Progress) (q : ℕ) → partOf k n f p ≡ Progress.At q → q + n ≤ length f
-room k n f (Progress.At at) q e =
-    due-cases (λ (p : Progress). p ≡ Progress.At q → q + n ≤ length f) k n f at
-    (λ k l e. let z : at + 1 ≡ q = ap offset e in omega arith)
-    (λ x o m e. let z : _≡_ {A = ℕ} 0 1 = cc in omega arith)
-    e
+inside : (k n : ℕ) (f : List ℕ) (p : Progress) → BodyInside f n (partOf k n f p)
+inside k n f (Progress.At at) =
+    due-cases (BodyInside f n) k n f at
+    (λ k l q e. let z : at + 1 ≡ q = ap offset e in omega arith)
+    (λ x o m q e. let z : _≡_ {A = ℕ} 0 1 = cc in omega arith)
   where
     offset : Progress → ℕ
     offset (Progress.At at) = at
     offset (Progress.Refused x at) = at
-room k n f (Progress.Refused x at) q e = let z : _≡_ {A = ℕ} 0 1 = cc in omega arith
+inside k n f (Progress.Refused x at) = λ q e. let z : _≡_ {A = ℕ} 0 1 = cc in omega arith
+
+pub with-body : (k n : ℕ) (f : List ℕ) (p r : Progress) → r ≡ partOf k n f p → (r ≡ partOf k n f p) × BodyInside f n r
+with-body k n f p r e = (e, rw e (inside k n f p))
 
 -- the end mark has no body, and says nothing
 pub end-taken : (f : List ℕ) (p : Progress) (s : Session) → _≡_ {A = Cursor} (record { progress = p; session = s }) (takenOf endRow f p s)

@@ -1,7 +1,8 @@
 -- 01: "Reading meets 11, 12, 13 from left to right." "An accepted read returns the file's length as its offset. A refused read returns the
 -- fresh session (all zero, no note) and an offset: of the kind byte for 11 or for a cut body, the file's length where a kind is due, the
 -- first extra byte for 13."
-use Prim.Native.Nat.{ℕ, _+_}
+use Prim.Native.Nat.{ℕ, _+_, _≤_}
+use mathlib.Core.Path.{_≡_}
 use mathlib.Core.Bool.{Bool, false, cond, not, _&&_}
 use mathlib.Core.List.{List, [], _∷_}
 use lib.Dec.{eqb, ltb, leb}
@@ -29,6 +30,10 @@ dueOf kind n f at =
 abbrev pub partOf : ℕ → ℕ → List ℕ → Progress → Progress
 partOf kind n f (Progress.At at) = dueOf kind n f at
 partOf kind n f (Progress.Refused r at) = Progress.Refused r at
+
+-- the body of n bytes where p is, if it is at one, lies in the file
+abbrev pub BodyInside : List ℕ → ℕ → Progress → Type 0
+BodyInside f n p = (at : ℕ) → p ≡ Progress.At at → at + n ≤ length f
 
 -- what the body says is taken, and reading goes on behind it
 abbrev pub takenOf : Row → List ℕ → Progress → Session → Cursor

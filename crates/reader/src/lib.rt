@@ -5,7 +5,7 @@ ghost use Prim.Native.Nat.{_+_, _≤_};
 ghost use lib.ListN.{length};
 ghost use Rattle.file.specs.Format.{numbersAt, pcRow, registersRow, totalRow, noteRow, endRow};
 ghost use Rattle.file.specs.Promises.{Reads};
-ghost use Rattle.file.specs.Reading.{dueOf, partOf, stands, rowOf, extraOf, parsedOf};
+ghost use Rattle.file.specs.Reading.{dueOf, partOf, BodyInside, stands, rowOf, extraOf, parsedOf};
 use file::Cursor;
 use file::Progress;
 use file::Reading;
@@ -31,8 +31,9 @@ fn due(file: &[u8], at: usize, kind: u8, n: usize) -> Progress
     Progress::At(at + 1)
 }
 
+// The same behind what came before: a refusal is handed on.
 fn part(file: &[u8], progress: Progress, kind: u8, n: usize) -> Progress
-    ensures { λ r. ⌜ r ≡ partOf kind n (now (file .entry)) progress ⌝ }
+    ensures { λ r. ⌜ (r ≡ partOf kind n (now (file .entry)) progress) × BodyInside (now (file .entry)) n r ⌝ }
 {
     match progress {
         Progress::At(at) => due(file, at, kind, n),

@@ -5,4 +5,4 @@ use Rattle.reader.proofs.take_end.Statement.{statement}
 use Rattle.reader.proofs.take_end.Tie as tie
 
 pub take-end-spec : {M : Type 1} → statement M
-take-end-spec = tie.close (tie.spec (λ c κs. search needs) (λ c. rw (c .part .ensures) (end-taken _ _ _)))
+take-end-spec = tie.close (tie.spec (λ c κs. search needs) (λ c. rw (c .part .ensures .0) (end-taken _ _ _)))

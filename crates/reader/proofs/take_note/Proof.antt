@@ -1,24 +1,22 @@
 -- `reader::take_note` meets its contract. Assumes nothing.
-use mathlib.Core.Path.{refl, sym, _∙_}
-use denote.Ref.{now}
+use mathlib.Core.Path.{refl}
 use native.Mathlib.Omega.{arith}
 use borrow.Author.Needs.{needs}
-use Rattle.file.proofs.Walk.{room}
 use Rattle.reader.proofs.take_note.Statement.{statement}
 use Rattle.reader.proofs.take_note.Tie as tie
 
 -- the body lies in the file
 low : tie.Need-get8-requires
-low c κs = omega (arith, room 4 16 (now (c .before .before .before .before .before .before .before .before .before .before .args .file)) (c .before .before .before .before .before .before .before .before .before .before .args .c .progress) _ (sym (c .before .before .before .before .before .part .ensures) ∙ c .before .before .before .at .given .1))
+low c κs = omega (arith, c .before .before .before .before .before .part .ensures .1 _ (c .before .before .before .at .given .1))
 
 add : tie.Need-add-get8
-add c = omega (arith, room 4 16 (now (c .before .before .before .before .before .before .before .before .before .before .before .args .file)) (c .before .before .before .before .before .before .before .before .before .before .before .args .c .progress) _ (sym (c .before .before .before .before .before .before .part .ensures) ∙ c .before .before .before .before .at .given .1))
+add c = omega (arith, c .before .before .before .before .before .before .part .ensures .1 _ (c .before .before .before .before .at .given .1))
 
 high : tie.Need-get8-requires-2
-high c κs = omega (arith, room 4 16 (now (c .before .before .before .before .before .before .before .before .before .before .before .args .file)) (c .before .before .before .before .before .before .before .before .before .before .before .args .c .progress) _ (sym (c .before .before .before .before .before .before .part .ensures) ∙ c .before .before .before .before .at .given .1))
+high c κs = omega (arith, c .before .before .before .before .before .before .part .ensures .1 _ (c .before .before .before .before .at .given .1))
 
 behind : tie.Need-add-t16
-behind c = omega (arith, room 4 16 (now (c .before .before .before .before .before .before .before .before .before .before .before .before .args .file)) (c .before .before .before .before .before .before .before .before .before .before .before .before .args .c .progress) _ (sym (c .before .before .before .before .before .before .before .part .ensures) ∙ c .before .before .before .before .before .at .given .1))
+behind c = omega (arith, c .before .before .before .before .before .before .before .part .ensures .1 _ (c .before .before .before .before .before .at .given .1))
 
 pub take-note-spec : {M : Type 1} → statement M
 take-note-spec =
@@ -33,5 +31,5 @@ take-note-spec =
     high
     behind
     (λ c. search needs)
-    (λ c. rw (← c .before .before .before .before .before .before .before .before .before .before .is-kind .ensures, c .before .before .before .before .before .before .before .before .before .if1 .left, ← c .before .before .before .before .before .before .before .part .ensures, c .before .before .before .before .before .at .given .1, c .before .get8 .ensures, c .get82 .ensures) refl)
-    (λ c. rw (← c .before .before .before .before .before .before .is-kind .ensures, c .before .before .before .before .before .if1 .left, ← c .before .before .before .part .ensures, c .before .refusal .given .1) refl))
+    (λ c. rw (← c .before .before .before .before .before .before .before .before .before .before .is-kind .ensures, c .before .before .before .before .before .before .before .before .before .if1 .left, ← c .before .before .before .before .before .before .before .part .ensures .0, c .before .before .before .before .before .at .given .1, c .before .get8 .ensures, c .get82 .ensures) refl)
+    (λ c. rw (← c .before .before .before .before .before .before .is-kind .ensures, c .before .before .before .before .before .if1 .left, ← c .before .before .before .part .ensures .0, c .before .refusal .given .1) refl))
