@@ -51,7 +51,7 @@ read-writes-back f h v buffer l =
     rw (k .file) at (write-accepted (hostReadOf f .session) buffer (k .zero) (rw (k .file) l))
 
 -- what a call that gives the definition's answer promises
-pub writes : (s : Session) (buffer : List ℕ) (r : Written) (after : List ℕ) → Fit s → r ≡ hostWriteOf s buffer .0 → after ≡ hostWriteOf s buffer .1
+writes : (s : Session) (buffer : List ℕ) (r : Written) (after : List ℕ) → Fit s → r ≡ hostWriteOf s buffer .0 → after ≡ hostWriteOf s buffer .1
     → Writes s buffer r after
 writes s buffer r after h e g = record {
   reply = e;
@@ -59,6 +59,12 @@ writes s buffer r after h e g = record {
   number = ap (λ (x : Written). refusedOf (x .verdict)) e;
   back = rw (e, g) (written-reads-back s h buffer);
 }
+
+-- the same from what the tests came to
+pub by-verdict : (s : Session) (buffer : List ℕ) (v : Verdict) (r : Written) (after : List ℕ) → Fit s → verdictOf (writeTests s (length buffer)) ≡ v
+    → r ≡ writeJudged v s buffer .0 → after ≡ writeJudged v s buffer .1 → Writes s buffer r after
+unfolding hostWriteOf
+by-verdict s buffer v r after h q e g = writes s buffer r after h (rw q e) (rw q g)
 
 pub reads : (f : List ℕ) (r : Reading) → AreBytes f → r ≡ hostReadOf f → Reads f r
 reads f r h e = record {
