@@ -78,19 +78,20 @@ fn register(line: &[u8], i: u64) -> u64 {
     i % 32 * 0x0101_0101_0101_0101
 }
 
-// As before, but for what an accepted answer puts in register 4.
-pub fn register_after(line: &[u8], i: u64) -> u64 {
-    if i == 4 && is_answer(line) && text::number(line, 125, 1) == 0 {
-        return budget_or_value(line);
-    }
-    register(line, i)
-}
-
 fn registers(line: &[u8]) -> [u64; 32] {
     let mut regs = [0u64; 32];
     for i in 0u64..32 {
         let at = i as usize;
         regs[at] = register(line, i);
+    }
+    regs
+}
+
+// As before, but for what an accepted answer puts in register 4.
+pub fn registers_after(line: &[u8]) -> [u64; 32] {
+    let mut regs = registers(line);
+    if is_answer(line) && text::number(line, 125, 1) == 0 {
+        regs[4] = budget_or_value(line);
     }
     regs
 }
@@ -121,13 +122,8 @@ pub fn fill_code(code: &mut [u8], word: u32) {
     }
 }
 
-// Byte i of the arena: no byte is zero, and bytes near to one another differ.
-pub fn arena_byte(i: usize) -> u8 {
-    ((i % 251 * 31 + 7) % 251 + 1) as u8
-}
-
 pub fn fill_arena(arena: &mut [u8]) {
     for i in 0usize..arena.len() {
-        arena[i] = arena_byte(i);
+        arena[i] = report::pattern(i);
     }
 }

@@ -16,9 +16,8 @@ mod given;
 mod tally;
 
 use libc::STDIN_FILENO;
-use libc::STDOUT_FILENO;
+use report::Held;
 use session::Reply;
-use tally::Held;
 
 // The longest code that a case lends, a word more than is allowed, and an arena with room beside the largest window.
 const CODE: usize = 65540;
@@ -55,7 +54,7 @@ fn hold_with(number: u64, line: &[u8], code: &[u8], arena: &mut [u8]) -> Held {
     let len = given::arena_length(line);
     given::fill_arena(arena);
     if len > arena.len() {
-        return differ::bad_line(number);
+        return report::no_case(number);
     }
     let r = reply(line, code, &mut arena[0..len]);
     compare(number, line, r, differ::arena(number, arena))
@@ -65,7 +64,7 @@ fn hold_with(number: u64, line: &[u8], code: &[u8], arena: &mut [u8]) -> Held {
 fn hold(number: u64, line: &[u8], code: &mut [u8], arena: &mut [u8]) -> Held {
     let len = given::code_length(line);
     if len > code.len() || !given::well_made(line) {
-        return differ::bad_line(number);
+        return report::no_case(number);
     }
     given::fill_code(&mut code[0..len], given::word(line));
     hold_with(number, line, &code[0..len], arena)
@@ -89,7 +88,7 @@ fn take_line(number: u64, code: &mut [u8; CODE], arena: &mut [u8; ARENA]) -> Tak
         };
     }
     if n != 0 {
-        io::write_all(STDOUT_FILENO, b"the last line is cut\n");
+        report::cut_line();
     }
     Taken {
         more: false,

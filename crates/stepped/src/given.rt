@@ -54,11 +54,6 @@ pub fn well_made(line: &[u8]) -> bool {
     known && text::byte(line, 208) == b'\n' && n <= 8 && five(line, 107) + n <= window_length(line)
 }
 
-// Byte i of the arena, but for those that the line gives: no byte is zero, and bytes near to one another differ.
-fn pattern(i: usize) -> u8 {
-    ((i % 251 * 31 + 7) % 251 + 1) as u8
-}
-
 // Where in the arena the bytes lie that the line gives, and how many they are.
 pub struct Part {
     pub from: usize,
@@ -75,7 +70,7 @@ pub fn given_part(line: &[u8]) -> Part {
 // Byte i of the arena, with the line's part, whose digits stand at a place: before or after the step.
 pub fn arena_byte(line: &[u8], p: Part, digits: u64, i: usize) -> u8 {
     if i < p.from || i - p.from >= p.n {
-        return pattern(i);
+        return report::pattern(i);
     }
     let nth = ((i - p.from) % 8) as u64;
     text::pair(line, std::num::wrapping_add_u64(digits, nth * 2))

@@ -17,7 +17,6 @@ use apply::End;
 use apply::Stepped;
 use fault::Telling;
 use libc::STDIN_FILENO;
-use libc::STDOUT_FILENO;
 use place::ArenaOffset;
 use place::GuestAddr;
 use place::Window;
@@ -50,8 +49,8 @@ fn compare(number: u64, line: &[u8], s: Stepped, arena: &[u8]) -> bool {
     let pc = s.pc;
     let wanted = given::registers_after(line);
     let stop = differ::stop(number, line, stop_numbers(end));
-    let place = differ::value(number, b"pc", pc.0, given::pc_after(line));
-    let registers = differ::registers(number, &regs, &wanted);
+    let place = report::value(number, b"pc", pc.0, given::pc_after(line));
+    let registers = report::registers(number, &regs, &wanted);
     let bytes = differ::arena(number, line, arena);
     stop || place || registers || bytes
 }
@@ -60,7 +59,7 @@ fn compare(number: u64, line: &[u8], s: Stepped, arena: &[u8]) -> bool {
 fn differs_in(number: u64, line: &[u8], code: &[u8], arena: &mut [u8]) -> bool {
     let len = given::window_length(line);
     if given::START + len > arena.len() {
-        return differ::bad_line(number);
+        return report::no_case(number).differs;
     }
     let window = Window {
         start: ArenaOffset(given::START),
@@ -78,7 +77,7 @@ fn differs(number: u64, line: &[u8], code: &mut [u8], arena: &mut [u8]) -> bool 
     let code_len = given::code_length(line);
     let end = given::START + given::window_length(line) + given::AFTER;
     if code_len > code.len() || end > arena.len() || !given::well_made(line) {
-        return differ::bad_line(number);
+        return report::no_case(number).differs;
     }
     given::put_word(code, line, given::word(line));
     let answer = differs_in(number, line, &code[0..code_len], &mut arena[0..end]);
@@ -104,7 +103,7 @@ fn take_line(t: Tally, code: &mut [u8; CODE], arena: &mut [u8; ARENA]) -> Turn {
         };
     }
     if n != 0 {
-        io::write_all(STDOUT_FILENO, b"the last line is cut\n");
+        report::cut_line();
     }
     Turn {
         more: false,

@@ -28,18 +28,9 @@ pub fn none() -> Tally {
     }
 }
 
-// One more where the condition holds. The counts are smaller than the input's length, so none wraps.
-fn more_if(count: u64, yes: bool) -> u64 {
-    if yes {
-        std::num::wrapping_add_u64(count, 1)
-    } else {
-        count
-    }
-}
-
 // The number of the line that comes after those that are counted; the first is 1.
 pub fn next_number(t: Tally) -> u64 {
-    more_if(std::num::wrapping_add_u64(t.emulator, t.house), true)
+    report::more_if(std::num::wrapping_add_u64(t.emulator, t.house), true)
 }
 
 fn name_of(line: &[u8]) -> [u8; NAME] {
@@ -51,10 +42,8 @@ fn name_of(line: &[u8]) -> [u8; NAME] {
 }
 
 fn print_counts(cases: u64, differ: u64) {
-    io::write_all(STDOUT_FILENO, b" ");
-    io::print_decimal(STDOUT_FILENO, cases);
-    io::write_all(STDOUT_FILENO, b" cases, ");
-    io::print_decimal(STDOUT_FILENO, differ);
+    report::print_number(b" ", cases);
+    report::print_number(b" cases, ", differ);
     io::write_all(STDOUT_FILENO, b" differ\n");
 }
 
@@ -101,11 +90,11 @@ pub fn count(t: Tally, line: &[u8], differs: bool) -> Tally {
     Tally {
         name: name,
         row: t.row,
-        cases: more_if(t.cases, true),
-        differ: more_if(t.differ, differs),
-        emulator: more_if(t.emulator, emulator),
-        emulator_differ: more_if(t.emulator_differ, emulator && differs),
-        house: more_if(t.house, !emulator),
-        house_differ: more_if(t.house_differ, !emulator && differs),
+        cases: report::more_if(t.cases, true),
+        differ: report::more_if(t.differ, differs),
+        emulator: report::more_if(t.emulator, emulator),
+        emulator_differ: report::more_if(t.emulator_differ, emulator && differs),
+        house: report::more_if(t.house, !emulator),
+        house_differ: report::more_if(t.house_differ, !emulator && differs),
     }
 }

@@ -1,15 +1,15 @@
--- `stepped::differ::registers` is safe and ends: i is at most 32, and what is left falls. Assumes nothing.
+-- `report::registers` is safe and ends: i is at most 32, and what is left falls. Assumes nothing.
 use Prim.Native.Nat.{_-_, _≤_}
 use native.Mathlib.Omega.{arith}
 use borrow.Author.Needs.{needs}
-use Rattle.stepped.proofs.differ.registers.Statement.{statement}
-use Rattle.stepped.proofs.differ.registers.Tie as tie
+use Rattle.report.proofs.registers.Statement.{statement}
+use Rattle.report.proofs.registers.Tie as tie
 
 abbrev Inv-loop : tie.InvT-loop
-Inv-loop number found wanted any₀ i₀ t7 any i = i ≤ 32
+Inv-loop line found wanted any₀ i₀ t7 any i = i ≤ 32
 
 abbrev μ-loop : tie.MeasureT-loop
-μ-loop number found wanted any₀ i₀ t7 any i = 32 - i
+μ-loop line found wanted any₀ i₀ t7 any i = 32 - i
 
 pub registers-spec : {M : Type 1} → statement M
 registers-spec =

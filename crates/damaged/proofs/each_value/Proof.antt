@@ -1,0 +1,32 @@
+-- `damaged::each_value` is safe and ends: the numbers left fall. Assumes nothing.
+use Prim.Native.Nat.{_-_}
+use native.Mathlib.Omega.{arith}
+use borrow.Author.Needs.{needs}
+use Rattle.damaged.proofs.each_value.Statement.{statement}
+use Rattle.damaged.proofs.each_value.Tie as tie
+
+abbrev Inv-loop : tie.InvT-loop
+Inv-loop row line place count so-far₀ value₀ value-end so-far value = Unit {0}
+
+abbrev μ-loop : tie.MeasureT-loop
+μ-loop row line place count so-far₀ value₀ value-end so-far value = value-end - value
+
+pub each-value-spec : {M : Type 1} → statement M
+each-value-spec =
+    tie.close
+    (tie.spec
+    Inv-loop
+    μ-loop
+    (λ c κs. search needs)
+    (λ c κs. search needs)
+    (λ c. omega arith)
+    (λ c. tt)
+    (λ c κs. search needs)
+    (λ c κs. search needs)
+    (λ c κs. search needs)
+    (λ c κs. search needs)
+    (λ c κs. search needs)
+    (λ c. omega arith)
+    (λ c. omega arith)
+    (λ c. tt)
+    (λ c. search needs))
