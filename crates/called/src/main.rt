@@ -88,7 +88,7 @@ fn take_line(number: u64, code: &mut [u8; CODE], arena: &mut [u8; ARENA]) -> Tak
         };
     }
     if n != 0 {
-        report::cut_line();
+        report::print_cut();
     }
     Taken {
         more: false,

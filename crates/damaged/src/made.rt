@@ -4,6 +4,9 @@ use place::GuestAddr;
 use session::Note;
 use session::Session;
 
+// Each byte that is put in after the first one.
+const FILLER: u8 = 238;
+
 // One case of a line: its form and its numbers.
 pub struct Case {
     pub note: bool,
@@ -14,7 +17,7 @@ pub struct Case {
 }
 
 // The case that damages nothing.
-pub fn unharmed(note: bool) -> Case {
+fn unharmed(note: bool) -> Case {
     Case {
         note,
         place: given::whole(note),
@@ -24,10 +27,7 @@ pub fn unharmed(note: bool) -> Case {
     }
 }
 
-// Each byte that is put in after the first one.
-const FILLER: u8 = 238;
-
-// Byte i of a whole file: the kinds, and a pattern in the bodies.
+// Byte i of a whole file: the kinds, and a pattern in the bodies. No plain one reaches 284.
 fn whole_byte(note: bool, i: usize) -> u8 {
     match i {
         0 => 1,
@@ -104,6 +104,12 @@ pub fn session(file: &[u8], zero: u64) -> Session {
     }
 }
 
+// The session of a write, whose file is the whole one. That is put in the buffer for the time.
+pub fn whole_session(buffer: &mut [u8], c: Case) -> Session {
+    fill_file(buffer, unharmed(c.note));
+    session(buffer, register_zero(c))
+}
+
 // The session of a refused read.
 pub fn nothing() -> Session {
     Session {
@@ -115,7 +121,7 @@ pub fn nothing() -> Session {
 }
 
 // Register 0 of a write: the case's count in the byte that its value names.
-pub fn register_zero(c: Case) -> u64 {
+fn register_zero(c: Case) -> u64 {
     let mut bytes = [0u8; 8];
     let at = c.value % 8;
     bytes[at] = (c.count % 256) as u8;

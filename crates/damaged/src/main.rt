@@ -13,7 +13,9 @@
 // the others 238, then the whole one again from the rest on. So a cut has no count and the rest at the whole file's end; a kind that is
 // replaced has count 1 and the rest one past the place; what is put in has the rest at the place.
 // A write's place is the length of its buffer; the byte of register 0 that the value names is the count. The rest is 0.
-// The kinds of a whole file stand at 0, 9, 258, 267 and, with a note, 284; its bodies are a pattern that `report` makes.
+// The kinds of a whole file stand at 0, 9, 258, 267 and, with a note, 284. Every other byte i of it is what `report::pattern` gives:
+// (i % 251 * 31 + 7) % 251 + 1.
+// What differs is printed with its line's number, `row` below, and then the place, count and value of the case.
 mod differ;
 mod given;
 mod made;
@@ -23,6 +25,7 @@ use file::Written;
 use given::ROOM;
 use libc::STDIN_FILENO;
 use made::Case;
+use report::Counts;
 use report::Held;
 use session::Session;
 use tally::Tally;
@@ -68,10 +71,9 @@ fn compare_written(row: u64, line: &[u8], w: Written, buffer: &[u8]) -> Held {
     }
 }
 
-// The buffer first holds the whole file, of which the session is made.
+// The buffer's length is tested as that of a file is.
 fn write(row: u64, line: &[u8], c: Case, buffer: &mut [u8]) -> Held {
-    made::fill_file(buffer, made::unharmed(c.note));
-    let session = made::session(buffer, made::register_zero(c));
+    let session = made::whole_session(buffer, c);
     made::fill_buffer(buffer);
     let len = c.place;
     if len > buffer.len() {
@@ -94,8 +96,8 @@ fn hold(row: u64, line: &[u8], c: Case) -> Held {
     held
 }
 
-fn each_value(row: u64, line: &[u8], place: usize, count: usize, t: Tally) -> Tally {
-    let mut so_far = t;
+fn each_value(row: u64, line: &[u8], place: usize, count: usize, before: Counts) -> Counts {
+    let mut counts = before;
     for value in given::three(line, 20)..given::three(line, 24) + 1 {
         let c = Case {
             note: given::has_note(line),
@@ -104,40 +106,55 @@ fn each_value(row: u64, line: &[u8], place: usize, count: usize, t: Tally) -> Ta
             value,
             rest: given::three(line, 28),
         };
-        let held = hold(row, line, c);
-        so_far = tally::count(so_far, given::is_write(line), held);
+        counts = report::one_more(counts, hold(row, line, c));
     }
-    so_far
+    counts
 }
 
-fn each_count(row: u64, line: &[u8], place: usize, t: Tally) -> Tally {
-    let mut so_far = t;
+fn each_count(row: u64, line: &[u8], place: usize, before: Counts) -> Counts {
+    let mut counts = before;
     for count in given::three(line, 12)..given::three(line, 16) + 1 {
-        so_far = each_value(row, line, place, count, so_far);
+        counts = each_value(row, line, place, count, counts);
     }
-    so_far
+    counts
 }
 
-fn each_place(row: u64, line: &[u8], t: Tally) -> Tally {
-    let mut so_far = t;
+fn each_place(row: u64, line: &[u8], before: Counts) -> Counts {
+    let mut counts = before;
     for place in given::three(line, 4)..given::three(line, 8) + 1 {
-        so_far = each_count(row, line, place, so_far);
+        counts = each_count(row, line, place, counts);
     }
-    so_far
+    counts
+}
+
+// The counts of a line's call after it. A line that is no case differs.
+fn counts_after(row: u64, line: &[u8], before: Counts) -> Counts {
+    if given::well_made(line) {
+        return each_place(row, line, before);
+    }
+    report::one_more(before, report::no_case(row))
+}
+
+// A line that does not begin as a write counts as a read.
+fn count_line(row: u64, line: &[u8], t: Tally) -> Tally {
+    let reads = t.reads;
+    let writes = t.writes;
+    if given::is_write(line) {
+        return Tally {
+            reads: reads,
+            writes: counts_after(row, line, writes),
+        };
+    }
+    Tally {
+        reads: counts_after(row, line, reads),
+        writes: writes,
+    }
 }
 
 // The tally after one more line, and whether there was one.
 struct Turn {
     more: bool,
     tally: Tally,
-}
-
-// A line that is no case differs, and counts as a read if it does not begin as a write.
-fn count_line(row: u64, line: &[u8], t: Tally) -> Tally {
-    if given::well_made(line) {
-        return each_place(row, line, t);
-    }
-    tally::count(t, given::is_write(line), report::no_case(row))
 }
 
 // A last line that is cut has no newline, so it is no case.

@@ -81,13 +81,8 @@ pub fn no_case(line: u64) -> Held {
     }
 }
 
-// Nor does a last line of which only a part is there.
-pub fn cut_line() -> Held {
+pub fn print_cut() {
     io::write_all(STDOUT_FILENO, b"the last line is cut\n");
-    Held {
-        refused: false,
-        differs: true,
-    }
 }
 
 pub struct Counts {

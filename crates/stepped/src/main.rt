@@ -103,7 +103,7 @@ fn take_line(t: Tally, code: &mut [u8; CODE], arena: &mut [u8; ARENA]) -> Turn {
         };
     }
     if n != 0 {
-        report::cut_line();
+        report::print_cut();
     }
     Turn {
         more: false,

@@ -6,10 +6,10 @@ use Rattle.damaged.proofs.each_count.Statement.{statement}
 use Rattle.damaged.proofs.each_count.Tie as tie
 
 abbrev Inv-loop : tie.InvT-loop
-Inv-loop row line place so-far₀ count₀ count-end so-far count = Unit {0}
+Inv-loop row line place counts₀ count₀ count-end counts count = Unit {0}
 
 abbrev μ-loop : tie.MeasureT-loop
-μ-loop row line place so-far₀ count₀ count-end so-far count = count-end - count
+μ-loop row line place counts₀ count₀ count-end counts count = count-end - count
 
 pub each-count-spec : {M : Type 1} → statement M
 each-count-spec =

@@ -6,10 +6,10 @@ use Rattle.damaged.proofs.each_place.Statement.{statement}
 use Rattle.damaged.proofs.each_place.Tie as tie
 
 abbrev Inv-loop : tie.InvT-loop
-Inv-loop row line so-far₀ place₀ place-end so-far place = Unit {0}
+Inv-loop row line counts₀ place₀ place-end counts place = Unit {0}
 
 abbrev μ-loop : tie.MeasureT-loop
-μ-loop row line so-far₀ place₀ place-end so-far place = place-end - place
+μ-loop row line counts₀ place₀ place-end counts place = place-end - place
 
 pub each-place-spec : {M : Type 1} → statement M
 each-place-spec =

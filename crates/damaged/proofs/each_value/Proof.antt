@@ -6,10 +6,10 @@ use Rattle.damaged.proofs.each_value.Statement.{statement}
 use Rattle.damaged.proofs.each_value.Tie as tie
 
 abbrev Inv-loop : tie.InvT-loop
-Inv-loop row line place count so-far₀ value₀ value-end so-far value = Unit {0}
+Inv-loop row line place count counts₀ value₀ value-end counts value = Unit {0}
 
 abbrev μ-loop : tie.MeasureT-loop
-μ-loop row line place count so-far₀ value₀ value-end so-far value = value-end - value
+μ-loop row line place count counts₀ value₀ value-end counts value = value-end - value
 
 pub each-value-spec : {M : Type 1} → statement M
 each-value-spec =
@@ -21,7 +21,6 @@ each-value-spec =
     (λ c κs. search needs)
     (λ c. omega arith)
     (λ c. tt)
-    (λ c κs. search needs)
     (λ c κs. search needs)
     (λ c κs. search needs)
     (λ c κs. search needs)
