@@ -7,7 +7,7 @@ use native.Mathlib.Nat.{add-zero}
 use native.Mathlib.Omega.{arith}
 use lib.Dec.{eqb, ltb, leb}
 use lib.ListN.{length, getD}
-use borrow.Author.Tests.{eqb-true, ltb-true, leb-true, eq-eqb, ne-eqb, lt-ltb, le-leb}
+use borrow.Author.Tests.{eqb-true, leb-false, ltb-false, eq-eqb, ne-eqb, lt-ltb, le-ltb, lt-leb}
 use Rattle.session.specs.declared.Session.{Session}
 use Rattle.session.specs.declared.Refusal.{Refusal}
 use Rattle.session.specs.declared.Refusal.the-variants.{FileKind, FileCut}
@@ -35,21 +35,21 @@ coreBytes s rest = partBytes pcRow s ++ (partBytes registersRow s ++ (partBytes 
 -- a part that stands there is met
 pub met : (k n : ℕ) (f : List ℕ) (at : ℕ) → getD f at 0 ≡ k → at + 1 + n ≤ length f → dueOf k n f at ≡ Progress.At (at + 1)
 unfolding dueOf
-met k n f at e h = rw (lt-ltb at (length f) (omega arith), eq-eqb (getD f at 0) k e, le-leb (at + 1 + n) (length f) h) refl
+met k n f at e h = rw (lt-leb (length f) at (omega arith), eq-eqb (getD f at 0) k e, le-ltb (length f) (at + 1 + n) h) refl
 
 -- to show G of a part that is due: show it where the part stands there, and of every refusal
 pub due-cases : (G : Progress → Type 0) (k n : ℕ) (f : List ℕ) (at : ℕ)
     → (getD f at 0 ≡ k → at + 1 + n ≤ length f → G (Progress.At (at + 1))) → ((x : Refusal) (o : ℕ) → Meets f x o → G (Progress.Refused x o))
     → G (dueOf k n f at)
 unfolding dueOf
-due-cases G k n f at stood refused = go (ltb at (length f)) (eqb (getD f at 0) k) (leb (at + 1 + n) (length f)) refl refl refl
+due-cases G k n f at stood refused = go (leb (length f) at) (eqb (getD f at 0) k) (ltb (length f) (at + 1 + n)) refl refl refl
   where
-    go : (a b c : Bool) → ltb at (length f) ≡ a → eqb (getD f at 0) k ≡ b → leb (at + 1 + n) (length f) ≡ c
-        → G (cond a (cond b (cond c (Progress.At (at + 1)) (Progress.Refused FileCut at)) (Progress.Refused FileKind at)) (Progress.Refused FileCut (length f)))
-    go true true true w x y = stood (eqb-true _ _ x) (leb-true _ _ y)
-    go true true false w x y = refused FileCut at (omega arith, omega arith, omega (arith, ltb-true at (length f) w))
-    go true false c w x y = refused FileKind at (omega arith, omega arith, omega (arith, ltb-true at (length f) w))
-    go false b c w x y = refused FileCut (length f) (omega arith, omega arith, omega arith)
+    go : (a b c : Bool) → leb (length f) at ≡ a → eqb (getD f at 0) k ≡ b → ltb (length f) (at + 1 + n) ≡ c
+        → G (cond a (Progress.Refused FileCut (length f)) (cond (not b) (Progress.Refused FileKind at) (cond c (Progress.Refused FileCut at) (Progress.At (at + 1)))))
+    go true b c w x y = refused FileCut (length f) (omega arith, omega arith, omega arith)
+    go false false c w x y = refused FileKind at (omega arith, omega arith, omega (arith, leb-false (length f) at w))
+    go false true true w x y = refused FileCut at (omega arith, omega arith, omega (arith, leb-false (length f) at w))
+    go false true false w x y = stood (eqb-true _ _ x) (ltb-false _ _ y)
 
 -- the note: it stands there, or another kind does
 pub note-met : (f : List ℕ) (at : ℕ) (t : Session) → getD f at 0 ≡ 4 → at + 1 + 16 ≤ length f

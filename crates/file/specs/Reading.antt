@@ -16,15 +16,13 @@ use Rattle.file.specs.declared.Progress.{Progress}
 use Rattle.file.specs.declared.Reading.{Reading}
 use Rattle.file.specs.Format.{Row, format}
 
--- A kind is due at `at`, with a body of n bytes: on to the body, or 12 where the file ends, 11 at another kind, 12 at a cut body.
+-- A kind is due at `at`, with a body of n bytes: 12 where the file ends, 11 at another kind, 12 at a cut body, or on to the body.
 unfoldable pub dueOf : ℕ → ℕ → List ℕ → ℕ → Progress
 dueOf kind n f at =
-    cond (ltb at (length f))
-    (cond (eqb (getD f at 0) kind)
-    (cond (leb (at + 1 + n) (length f)) (Progress.At (at + 1))
-    (Progress.Refused FileCut at))
-    (Progress.Refused FileKind at))
-    (Progress.Refused FileCut (length f))
+    cond (leb (length f) at) (Progress.Refused FileCut (length f))
+    (cond (not (eqb (getD f at 0) kind)) (Progress.Refused FileKind at)
+    (cond (ltb (length f) (at + 1 + n)) (Progress.Refused FileCut at)
+    (Progress.At (at + 1))))
 
 -- the first refusal is the one that is given
 abbrev pub partOf : ℕ → ℕ → List ℕ → Progress → Progress

@@ -15,11 +15,11 @@ unfolding dueOf
 due-spec =
     tie.close
     (tie.spec
-    (λ c. rw (le-ltb _ _ (c .if1 .taken)) refl)
+    (λ c. rw (le-leb _ _ (c .if1 .taken)) refl)
     (λ c. search needs)
-    (λ c. rw (lt-ltb _ _ (c .before .before .if1 .left), ne-eqb _ _ (c .if2 .taken)) refl)
+    (λ c. rw (lt-leb _ _ (c .before .before .if1 .left), ne-eqb _ _ (c .if2 .taken)) refl)
     (λ c. search needs)
     (λ c. search needs)
-    (λ c. let a = c .before .before .before .before .args in rw (lt-ltb _ _ (c .before .before .before .if1 .left), eq-eqb _ _ (c .before .if2 .left), lt-leb (a .at + 1 + a .n) (length (now (a .file))) (omega arith)) refl)
+    (λ c. let a = c .before .before .before .before .args in rw (lt-leb _ _ (c .before .before .before .if1 .left), eq-eqb _ _ (c .before .if2 .left), lt-ltb (length (now (a .file))) (a .at + 1 + a .n) (omega arith)) refl)
     (λ c. search needs)
-    (λ c. let a = c .before .before .before .before .args in rw (lt-ltb _ _ (c .before .before .before .if1 .left), eq-eqb _ _ (c .before .if2 .left), le-leb (a .at + 1 + a .n) (length (now (a .file))) (omega arith)) refl))
+    (λ c. let a = c .before .before .before .before .args in rw (lt-leb _ _ (c .before .before .before .if1 .left), eq-eqb _ _ (c .before .if2 .left), le-ltb (length (now (a .file))) (a .at + 1 + a .n) (omega arith)) refl))
