@@ -121,9 +121,3 @@ pub fn fill_code(code: &mut [u8], word: u32) {
         code[i] = code_byte(word, i);
     }
 }
-
-pub fn fill_arena(arena: &mut [u8]) {
-    for i in 0usize..arena.len() {
-        arena[i] = report::pattern(i);
-    }
-}

@@ -10,7 +10,7 @@
 //         none; step count [150, 5], pc [156, 16], total [173, 16]
 //     what the case shows [190, 40]
 // A field that differs is printed by the column where it begins.
-// All else is a pattern that `given` makes, and must not change, but that an accepted answer puts its value in register 4.
+// All else is a pattern that `given` and `report` make, and must not change, but that an accepted answer puts its value in register 4.
 mod differ;
 mod given;
 mod tally;
@@ -52,7 +52,7 @@ fn compare(number: u64, line: &[u8], r: Reply, bytes: bool) -> Held {
 // Gives a line's call as much of the arena as the line says.
 fn hold_with(number: u64, line: &[u8], code: &[u8], arena: &mut [u8]) -> Held {
     let len = given::arena_length(line);
-    given::fill_arena(arena);
+    report::fill(arena, 0);
     if len > arena.len() {
         return report::no_case(number);
     }

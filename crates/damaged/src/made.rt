@@ -134,9 +134,7 @@ fn buffer_byte(i: usize) -> u8 {
 }
 
 pub fn fill_buffer(buffer: &mut [u8]) {
-    for i in 0usize..buffer.len() {
-        buffer[i] = buffer_byte(i);
-    }
+    report::fill(buffer, 1);
 }
 
 // Byte i of a buffer after a write of a length, which is 0 for one that is refused.

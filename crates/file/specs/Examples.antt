@@ -29,9 +29,10 @@ plain = fileOf (sample Note.Absent)
 abbrev pub noted : List ℕ
 noted = fileOf (sample (Note.Present 0x7700000000000066 0x9900000000000088))
 
-abbrev pub all : {A : Type 0} → (A → Bool) → List A → Bool
-all test [] = true
-all test (x ∷ xs) = test x && all test xs
+-- the test holds of all
+abbrev pub ofAll : {A : Type 0} → (A → Bool) → List A → Bool
+ofAll test [] = true
+ofAll test (x ∷ xs) = test x && ofAll test xs
 
 -- a byte and where it stands
 pub record Byte : Type 0 where
@@ -51,7 +52,7 @@ places =
     ∷ byte 284 5
     ∷ []
 
-pub bytes-in-place : all (λ (b : Byte). eqb (getD noted (b .at) 0) (b .value)) places ≡ true
+pub bytes-in-place : ofAll (λ (b : Byte). eqb (getD noted (b .at) 0) (b .value)) places ≡ true
 unfolding fileOf bytesLE bytesOfEach
 bytes-in-place = refl
 
@@ -101,6 +102,6 @@ damages =
 abbrev pub told : Damage → Bool
 told d = eqb (refusedOf (hostReadOf (d .file) .verdict)) (d .number) && eqb (hostReadOf (d .file) .offset) (d .offset)
 
-pub damages-told : all told damages ≡ true
+pub damages-told : ofAll told damages ≡ true
 unfolding fileOf bytesLE bytesOfEach numbersAt getLE hostReadOf parsedOf dueOf stands extraOf
 damages-told = refl

@@ -134,3 +134,10 @@ pub fn wide(b: u8) -> u64
 pub fn pattern(i: usize) -> u8 {
     ((i % 251 * 31 + 7) % 251 + 1) as u8
 }
+
+// Fills a buffer with the pattern, which begins at its byte `from`.
+pub fn fill(buffer: &mut [u8], from: usize) {
+    for i in 0usize..buffer.len() {
+        buffer[i] = pattern(std::num::wrapping_add_usize(i % 251, from));
+    }
+}

@@ -1,25 +1,26 @@
--- `called::given::fill_arena` is safe and ends: the arena keeps its length, i is at most that, and what is left falls. Assumes nothing.
+-- `report::fill` is safe and ends: the buffer keeps its length, i is at most that, and what is left falls. Assumes nothing.
 use mathlib.Core.Path.{_≡_}
 use Prim.Native.Nat.{_-_, _≤_}
 use lib.ListN.{length, length-set}
 use native.Mathlib.Omega.{arith}
 use borrow.Author.Needs.{needs}
-use Rattle.called.proofs.given.fill_arena.Statement.{statement}
-use Rattle.called.proofs.given.fill_arena.Tie as tie
+use Rattle.report.proofs.fill.Statement.{statement}
+use Rattle.report.proofs.fill.Tie as tie
 
 abbrev Inv-loop : tie.InvT-loop
-Inv-loop arena₀ i₀ i-end arena i = (i ≤ length arena₀) × (length arena ≡ length arena₀)
+Inv-loop buffer₀ from i₀ i-end buffer i = (i ≤ length buffer₀) × (length buffer ≡ length buffer₀)
 
 abbrev μ-loop : tie.MeasureT-loop
-μ-loop arena₀ i₀ i-end arena i = length arena₀ - i
+μ-loop buffer₀ from i₀ i-end buffer i = length buffer₀ - i
 
-pub fill-arena-spec : {M : Type 1} → statement M
-fill-arena-spec =
+pub fill-spec : {M : Type 1} → statement M
+fill-spec =
     tie.close
     (tie.spec
     Inv-loop
     μ-loop
     (λ c. omega arith)
+    (λ c κs. search needs)
     (λ c κs. search needs)
     (λ c. omega arith)
     (λ c. omega arith)
