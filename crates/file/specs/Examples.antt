@@ -1,4 +1,4 @@
--- 01's sentences on the file, worked out on two files of each form: where the bytes stand, and what reading a damaged file says. Each
+-- 01's sentences on the file, worked out on a file of each form: where the bytes stand, and what reading a damaged file says. Each
 -- table is one computed test.
 use Prim.Native.Nat.{ℕ}
 use mathlib.Core.Path.{_≡_, refl}

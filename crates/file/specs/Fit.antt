@@ -1,5 +1,6 @@
--- What every session and every file has that a caller can hand in, by the types of their numbers. 01: "32 general registers of 64 bits",
--- "16 bytes". The promises (Promises.antt) do not ask it of anyone: proofs/Fits.antt shows it of whatever comes in.
+-- What every session has that a caller can hand in, by the types of its numbers. 01: "32 general registers of 64 bits", "16 bytes". What
+-- every file has is `AreBytes` (crates/bytes/specs/Bytes.antt). The promises (Promises.antt) do not ask it of anyone:
+-- proofs/Fits.antt shows it of whatever session comes in.
 use Prim.Native.Nat.{ℕ, _^_, _<_}
 use mathlib.Core.Path.{_≡_}
 use lib.ListN.{length, getD}

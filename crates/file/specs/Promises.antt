@@ -1,6 +1,6 @@
--- What `writer::write` and `reader::read` promise, for all inputs; and the two halves of 01's demand, "A paused session written out reads
--- back the same; a file that is read writes back to the same bytes", as theorems about the definitions. The proofs are in
--- proofs/RoundTrip.antt.
+-- What `writer::write` and `reader::read` promise, for all inputs; and demand 2 on the file in its two halves, as theorems about the
+-- definitions: a paused session that is written out reads back the same, and a file that is read writes back to the same bytes. The proofs
+-- are in proofs/RoundTrip.antt.
 use Prim.Native.Nat.{ℕ, _≤_}
 use mathlib.Core.Path.{_≡_}
 use mathlib.Core.List.{List, _++_}
