@@ -1,5 +1,4 @@
 pub mod Lengths
-pub mod Fits
 pub mod Walk
 pub mod There
 pub mod Back

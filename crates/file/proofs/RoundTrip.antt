@@ -13,7 +13,7 @@ use Rattle.refuse.specs.Refusals.{zeroDue, verdictOf, refusedOf}
 use Rattle.refuse.proofs.Accepted.{Clear, all-clear}
 use Rattle.file.specs.declared.Written.{Written}
 use Rattle.file.specs.declared.Reading.{Reading}
-use Rattle.file.specs.Fit.{Fit}
+use Rattle.session.specs.Fit.{Fit}
 use Rattle.file.specs.Writing.{fileOf, bufferDue, writeTests, writeJudged, hostWriteOf}
 use Rattle.file.specs.Reading.{hostReadOf}
 use Rattle.file.specs.Promises.{ReadsBack, Writes, Reads, WrittenReadsBack, ReadWritesBack}

@@ -15,7 +15,7 @@ use Rattle.session.specs.Session.{freshOf}
 use Rattle.refuse.specs.declared.Verdict.{Verdict}
 use Rattle.file.specs.declared.Cursor.{Cursor}
 use Rattle.file.specs.declared.Progress.{Progress}
-use Rattle.file.specs.Fit.{Fit, NoteFit}
+use Rattle.session.specs.Fit.{Fit, NoteFit}
 use Rattle.file.specs.Format.{Row, bytesOfEach, numbersAt, withNote, pcRow, registersRow, totalRow, noteRow, endRow}
 use Rattle.file.specs.Writing.{partBytes, fileOf}
 use Rattle.file.specs.Reading.{dueOf, takenOf, rowOf, extraOf, parsedOf, readingOf, hostReadOf}

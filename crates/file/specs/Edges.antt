@@ -10,7 +10,7 @@ use Rattle.session.specs.declared.Refusal.{Refusal}
 use Rattle.session.specs.Session.{freshOf}
 use Rattle.session.specs.Numbers.{numberOf}
 use Rattle.refuse.specs.declared.Verdict.{Verdict}
-use Rattle.file.specs.Fit.{Fit}
+use Rattle.session.specs.Fit.{Fit}
 use Rattle.file.specs.Writing.{fileOf, hostWriteOf}
 use Rattle.file.specs.Reading.{hostReadOf}
 

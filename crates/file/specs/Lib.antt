@@ -1,7 +1,6 @@
 pub mod Format
 pub mod Writing
 pub mod Reading
-pub mod Fit
 pub mod Edges
 pub mod Promises
 pub mod Examples

@@ -11,7 +11,7 @@ use Rattle.refuse.specs.declared.Verdict.{Verdict}
 use Rattle.refuse.specs.Refusals.{refusedOf}
 use Rattle.file.specs.declared.Written.{Written}
 use Rattle.file.specs.declared.Reading.{Reading}
-use Rattle.file.specs.Fit.{Fit}
+use Rattle.session.specs.Fit.{Fit}
 use Rattle.file.specs.Writing.{hostWriteOf}
 use Rattle.file.specs.Reading.{hostReadOf}
 

@@ -4,6 +4,7 @@ use Prim.Native.Nat.{ℕ, _^_}
 use mathlib.Core.Path.{_≡_, refl}
 use mathlib.Core.List.{List, [], _∷_, _++_}
 use lib.ListN.{replicate}
+use Rattle.place.specs.Place.{codeBase}
 use Rattle.bytes.specs.Bytes.{bytesLE}
 use Rattle.session.specs.declared.Note.{Note}
 use Rattle.session.specs.declared.Session.{Session}
@@ -11,6 +12,10 @@ use Rattle.session.specs.declared.Session.{Session}
 -- "the fresh session (all zero, no note)"
 abbrev pub freshOf : Session
 freshOf = record { regs = replicate 32 0; pc = record { 0 = 0 }; total = 0; note = Note.Absent }
+
+-- "all registers 0, pc 0x10000, total 0"
+abbrev pub startOf : Session
+startOf = record { regs = replicate 32 0; pc = record { 0 = codeBase }; total = 0; note = Note.Absent }
 
 -- the bytes of a note ("All data is little-endian")
 abbrev pub noteBytes : Note → List ℕ

@@ -1,7 +1,7 @@
 // A session, and how a host call on it ends.
 ghost use mathlib.Core.Path.{_≡_};
 ghost use Rattle.fault.specs.Fault.{toldOf};
-ghost use Rattle.session.specs.Session.{freshOf};
+ghost use Rattle.session.specs.Session.{freshOf, startOf};
 ghost use Rattle.session.specs.Numbers.{numberOf, numbersOf};
 use fault::Fault;
 use fault::Telling;
@@ -32,6 +32,18 @@ impl Session {
         Session {
             regs: [0; 32],
             pc: GuestAddr(0),
+            total: 0,
+            note: Note::Absent,
+        }
+    }
+
+    // What the bench program runs: the first word of the code is next, and all else is zero.
+    pub fn start() -> Session
+        ensures { λ r. ⌜ r ≡ startOf ⌝ }
+    {
+        Session {
+            regs: [0; 32],
+            pc: GuestAddr(GuestAddr::CODE),
             total: 0,
             note: Note::Absent,
         }

@@ -3,7 +3,7 @@ use mathlib.Core.Path.{refl}
 use borrow.Author.Needs.{needs}
 use Rattle.file.specs.Writing.{bufferDue}
 use Rattle.file.proofs.Lengths.{length-without, length-with}
-use Rattle.file.proofs.Fits.{session-fits}
+use Rattle.session.proofs.Fits.{session-fits}
 use Rattle.writer.proofs.buffer_due.Statement.{statement}
 use Rattle.writer.proofs.buffer_due.Tie as tie
 

@@ -9,8 +9,8 @@ use Rattle.bytes.proofs.Stands.{length-bytes}
 use Rattle.file.specs.Format.{pcRow, registersRow, totalRow, noteRow, endRow}
 use Rattle.file.specs.Writing.{partBytes, fileOf}
 use Rattle.file.proofs.Lengths.{length-registers, length-file}
-use Rattle.file.proofs.Fits.{session-fits}
-use Rattle.writer.proofs.Joined.{joined}
+use Rattle.session.proofs.Fits.{session-fits}
+use Rattle.bytes.proofs.Joined.{joined}
 use Rattle.writer.proofs.put_file.Statement.{statement}
 use Rattle.writer.proofs.put_file.Tie as tie
 

@@ -7,7 +7,7 @@ use borrow.Author.Needs.{needs}
 use Rattle.bytes.specs.Bytes.{bytesLE}
 use Rattle.bytes.proofs.Stands.{length-bytes}
 use Rattle.file.proofs.Lengths.{part-absent, part-present, length-present}
-use Rattle.writer.proofs.Joined.{joined}
+use Rattle.bytes.proofs.Joined.{joined}
 use Rattle.writer.proofs.put_note.Statement.{statement}
 use Rattle.writer.proofs.put_note.Tie as tie
 

@@ -4,7 +4,7 @@ use mathlib.Core.List.{[], _∷_}
 use native.Mathlib.Omega.{arith}
 use borrow.Author.Needs.{needs}
 use Rattle.bytes.specs.Bytes.{bytesLE}
-use Rattle.writer.proofs.Joined.{joined}
+use Rattle.bytes.proofs.Joined.{joined}
 use Rattle.writer.proofs.put_number.Statement.{statement}
 use Rattle.writer.proofs.put_number.Tie as tie
 

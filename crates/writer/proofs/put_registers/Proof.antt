@@ -5,7 +5,7 @@ use native.Mathlib.Omega.{arith}
 use borrow.Author.Needs.{needs}
 use lib.ListN.{drop}
 use Rattle.file.specs.Format.{bytesOfEach}
-use Rattle.writer.proofs.Joined.{joined}
+use Rattle.bytes.proofs.Joined.{joined}
 use Rattle.writer.proofs.put_registers.Statement.{statement}
 use Rattle.writer.proofs.put_registers.Tie as tie
 

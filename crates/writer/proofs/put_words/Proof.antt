@@ -6,7 +6,7 @@ use lib.ListN.{length, drop, getD}
 use lib.Seq.{sets, length-sets}
 use Rattle.bytes.specs.Bytes.{bytesLE}
 use Rattle.file.specs.Format.{bytesOfEach}
-use Rattle.writer.proofs.Joined.{each-turn, each-done}
+use Rattle.writer.proofs.EachWord.{each-turn, each-done}
 use Rattle.writer.proofs.put_words.Statement.{statement}
 use Rattle.writer.proofs.put_words.Tie as tie
 

@@ -3,11 +3,11 @@ use mathlib.Core.Path.{refl, sym, _∙_}
 use denote.Ref.{now}
 use borrow.Author.Needs.{needs}
 use Rattle.refuse.specs.declared.Verdict.{Verdict}
-use Rattle.file.specs.Fit.{Fit}
+use Rattle.session.specs.Fit.{Fit}
 use Rattle.file.specs.Writing.{fileOf}
-use Rattle.file.proofs.Fits.{session-fits}
+use Rattle.session.proofs.Fits.{session-fits}
 use Rattle.file.proofs.RoundTrip.{by-verdict, write-room}
-use Rattle.writer.proofs.Joined.{in-front}
+use Rattle.bytes.proofs.Joined.{in-front}
 use Rattle.writer.proofs.write.Statement.{statement}
 use Rattle.writer.proofs.write.Tie as tie
 

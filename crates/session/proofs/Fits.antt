@@ -10,11 +10,11 @@ use denote.Shadow.{shadow}
 use denote.Array.{each}
 use denote.Struct.Field.{u64-field}
 use denote.Struct.Declared.{row}
 use Rattle.session.proofs.Session.{the-type}
 use Rattle.session.proofs.Note.{the-field}
 use Rattle.session.specs.declared.Session.{Session}
 use Rattle.session.specs.declared.Note.{Note}
-use Rattle.file.specs.Fit.{Fit, NoteFit}
+use Rattle.session.specs.Fit.{Fit, NoteFit}
 
 -- `Is` of a type, computed: a u64's is its machine value and its bound (`.1`); a struct's has its fields in order behind `.1 .1`; an array's has
 -- its length at `.1 .0 .1` and its elements at `.1 .1`; an enum's has the fields of its case, which it is known by, behind `.1 .1 .1 .1`. An

@@ -1,11 +1,11 @@
--- What every session has that a caller can hand in, by the types of its numbers. 01: "32 general registers of 64 bits", "16 bytes". What
--- every file has is `AreBytes` (crates/bytes/specs/Bytes.antt). The promises (Promises.antt) do not ask it of anyone:
--- proofs/Fits.antt shows it of whatever session comes in.
+-- What every session has that a caller can hand in, by the types of its numbers. 01: "32 general registers of 64 bits", "16 bytes". No
+-- promise asks it of anyone: proofs/Fits.antt shows it of whatever session comes in. What every file has is `AreBytes`
+-- (crates/bytes/specs/Bytes.antt).
 use Prim.Native.Nat.{ℕ, _^_, _<_}
 use mathlib.Core.Path.{_≡_}
 use lib.ListN.{length, getD}
 use Rattle.session.specs.declared.Note.{Note}
 use Rattle.session.specs.declared.Session.{Session}
 
 abbrev pub NoteFit : Note → Type 0
 NoteFit Note.Absent = Unit {0}

@@ -1,0 +1,23 @@
+-- 01: "The bench program reads code bytes from standard input, runs them with all registers 0, pc 0x10000, total 0, a 64-byte zero
+-- window, budget 1,000."
+use Prim.Native.Nat.{ℕ}
+use Prim.Native.String.{String}
+use mathlib.Core.Path.{_≡_, refl}
+use mathlib.Core.List.{List, [], _∷_}
+use lib.ListN.{replicate}
+use Rattle.place.specs.declared.Window.{Window}
+use Rattle.session.specs.declared.Reply.{Reply}
+use Rattle.session.specs.Session.{startOf}
+use Rattle.running.specs.Call.{hostRunOf}
+use Rattle.printed.specs.Digits.{ascii}
+use Rattle.printed.specs.Lines.{printedOf}
+
+-- the arena is the window
+abbrev pub benchWindow : Window
+benchWindow = record { start = record { 0 = 0 }; len = 64 }
+
+unfoldable pub benchOf : List ℕ → Reply
+benchOf code = hostRunOf code benchWindow startOf 1000 (replicate 64 0) .0
+
+abbrev pub benchText : List ℕ → List ℕ
+benchText code = printedOf (benchOf code)
