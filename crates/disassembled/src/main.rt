@@ -1,5 +1,5 @@
-// Holds the decoder to a recording of an independent disassembler (tools/record-words), and prints for each mnemonic how many
-// words there were and how many of them differ. A line is
+// Holds the decoder, and the mnemonics of `names`, to a recording of an independent disassembler (tools/record-words), and prints for
+// each mnemonic how many words there were and how many of them differ. A line is
 //     L 02c01c04 05 01 addi.d       04 00 00 00000007
 // where L is what the disassembler prints; N a word that it does not know, or that is no instruction of document 01; H one that
 // document 01 says does not exist. Then the word, the numbers of a family and of an operation of it, the mnemonic, and the
@@ -121,12 +121,33 @@ fn same(a: Numbers, b: Numbers) -> bool {
     operation && registers && a.imm == b.imm
 }
 
+// Whether the instruction's text begins with the line's mnemonic: up to its first blank, and the line has blanks from there on.
+fn named(line: &[u8], text: &[u8]) -> bool {
+    let mut same = true;
+    let mut inside = true;
+    for i in 0usize..12 {
+        let b = text::byte(text, i);
+        inside = inside && b != b' ';
+        let wanted = if inside { b } else { b' ' };
+        same = same && text::byte(line, 17 + i) == wanted;
+    }
+    same
+}
+
+fn same_text(line: &[u8], i: Instruction) -> bool {
+    let l = names::text(i);
+    let bytes = l.bytes;
+    named(line, text::part(&bytes, 0, l.len))
+}
+
 // Whether the decoder says what the line says. A letter that there is not agrees with nothing.
 fn agrees(line: &[u8]) -> bool {
     let letter = text::byte(line, 0);
     let d = decoder::decode(text::half(line, 2));
     match d {
-        Decoded::Known(i) => letter == b'L' && same(numbers_of(i), read_numbers(line)),
+        Decoded::Known(i) => {
+            letter == b'L' && same(numbers_of(i), read_numbers(line)) && same_text(line, i)
+        }
         Decoded::Unknown => letter == b'N' || letter == b'H',
     }
 }

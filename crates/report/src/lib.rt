@@ -1,5 +1,7 @@
-// What the programs share that hold a call to a table: how a difference, a line that is no case and the counts are printed. And the
-// bytes with which they fill a buffer.
+// What the programs share that hold a call to a table or a recording: how a difference, a line that is no case and the counts are
+// printed. And the bytes with which they fill a buffer.
+pub mod tally;
+
 ghost use Prim.Native.Nat.{_<_};
 use libc::STDOUT_FILENO;
 

@@ -11,7 +11,6 @@
 // All else is a pattern that `given` makes, and must not change.
 mod differ;
 mod given;
-mod tally;
 
 use apply::End;
 use apply::Stepped;
@@ -20,7 +19,8 @@ use libc::STDIN_FILENO;
 use place::ArenaOffset;
 use place::GuestAddr;
 use place::Window;
-use tally::Tally;
+use report::tally;
+use report::tally::Tally;
 
 // The length of a line, with its newline.
 const LINE: usize = 209;
@@ -95,11 +95,11 @@ fn take_line(t: Tally, code: &mut [u8; CODE], arena: &mut [u8; ARENA]) -> Turn {
     let mut line = [0u8; LINE];
     let n = io::read_full(STDIN_FILENO, &mut line);
     if n == LINE {
-        let of_row = tally::for_line(t, &line);
+        let of_group = tally::for_line(t, &line);
         let d = differs(tally::next_number(t), &line, code, arena);
         return Turn {
             more: true,
-            tally: tally::count(of_row, &line, d),
+            tally: tally::count(of_group, &line, d),
         };
     }
     if n != 0 {
@@ -126,6 +126,6 @@ fn main() {
             turns = 0;
         }
     }
-    tally::print_row(t);
+    tally::print_group(t);
     tally::print_totals(t);
 }
