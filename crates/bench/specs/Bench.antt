@@ -1,15 +1,12 @@
 -- 01: "The bench program reads code bytes from standard input, runs them with all registers 0, pc 0x10000, total 0, a 64-byte zero
 -- window, budget 1,000."
 use Prim.Native.Nat.{ℕ}
-use Prim.Native.String.{String}
-use mathlib.Core.Path.{_≡_, refl}
-use mathlib.Core.List.{List, [], _∷_}
+use mathlib.Core.List.{List, []}
 use lib.ListN.{replicate}
 use Rattle.place.specs.declared.Window.{Window}
 use Rattle.session.specs.declared.Reply.{Reply}
 use Rattle.session.specs.Session.{startOf}
 use Rattle.running.specs.Call.{hostRunOf}
-use Rattle.printed.specs.Digits.{ascii}
 use Rattle.printed.specs.Lines.{printedOf}
 
 -- the arena is the window

@@ -5,7 +5,7 @@ use mathlib.Core.Path.{_≡_, refl}
 use mathlib.Core.Bool.{Bool, true, _&&_}
 use mathlib.Core.List.{List, [], _∷_, _++_}
 use lib.Dec.{eqb}
-use lib.ListN.{length, take, getD, set, replicate}
+use lib.ListN.{take, getD, set, replicate}
 use Rattle.bytes.specs.Bytes.{getLE, bytesLE}
 use Rattle.session.specs.declared.Note.{Note}
 use Rattle.session.specs.declared.Session.{Session}

@@ -1,14 +1,12 @@
 -- 01's sentences on what is printed, each on a whole text. All rows stand under one theorem, whose proof is "compute both sides".
 use Prim.Native.Nat.{ℕ}
-use Prim.Native.String.{String, _++_}
+use Prim.Native.String.{String}
 use mathlib.Core.Path.{_≡_, refl}
 use mathlib.Core.List.{List, [], _∷_, map}
 use lib.ListN.{set, replicate}
 use Rattle.fault.specs.declared.Fault.{Fault}
 use Rattle.session.specs.declared.Note.{Note}
-use Rattle.session.specs.declared.Session.{Session}
 use Rattle.session.specs.declared.Stop.{Stop}
-use Rattle.session.specs.declared.Refusal.{Refusal}
 use Rattle.session.specs.declared.Refusal.the-variants.{CodeLength, BufferLength}
 use Rattle.session.specs.declared.Outcome.{Outcome}
 use Rattle.session.specs.declared.Reply.{Reply}

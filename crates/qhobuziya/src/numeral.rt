@@ -1,5 +1,5 @@
 // Numbers that are given as text.
-ghost use Prim.Native.Nat.{_<_, _≤_};
+ghost use Prim.Native.Nat.{_≤_};
 
 pub enum Parsed {
     Number(u64),
