@@ -3,27 +3,15 @@ use Prim.Native.Nat.{ℕ}
 use Prim.Native.String.{String}
 use mathlib.Core.Path.{_≡_, refl}
 use mathlib.Core.List.{List, [], _∷_, map}
-use lib.ListN.{set, replicate}
 use Rattle.fault.specs.declared.Fault.{Fault}
 use Rattle.session.specs.declared.Note.{Note}
 use Rattle.session.specs.declared.Stop.{Stop}
 use Rattle.session.specs.declared.Refusal.the-variants.{CodeLength, BufferLength}
 use Rattle.session.specs.declared.Outcome.{Outcome}
 use Rattle.session.specs.declared.Reply.{Reply}
+use Rattle.session.specs.Registers.{Value, r, registers}
 use Rattle.printed.specs.Digits.{ascii, digits, places, decimal, hex16}
 use Rattle.printed.specs.Lines.{counted, valued, countLine, numbersLine, stopLine, registerLine, registerLines, stateLines, outcomeLines, printedOf}
-
--- a register and its value; all that are not named are 0
-pub record Value : Type 0 where
-  pub register : ℕ
-  pub value : ℕ
-
-abbrev r : ℕ → ℕ → Value
-r i v = record { register = i; value = v }
-
-abbrev registers : List Value → List ℕ
-registers [] = replicate 32 0
-registers (x ∷ xs) = set (registers xs) (x .register) (x .value)
 
 abbrev reply : Outcome → ℕ → ℕ → List Value → Reply
 reply o steps pc xs =

@@ -6,7 +6,6 @@
 use Prim.Native.Nat.{ℕ, _+_}
 use mathlib.Core.Path.{_≡_, refl}
 use mathlib.Core.List.{List, [], _∷_, map}
-use lib.ListN.{set, replicate}
 use Rattle.place.specs.Place.{locateOf, fetchPlaceOf}
 use Rattle.bytes.specs.Bytes.{getLE, bytesLE}
 use Rattle.alu.specs.Alu.{aluOf}
@@ -28,6 +27,7 @@ use Rattle.session.specs.declared.Note.{Note}
 use Rattle.session.specs.declared.Reply.{Reply}
 use Rattle.session.specs.declared.Numbers.{Numbers}
 use Rattle.session.specs.Numbers.{numbersOf}
+use Rattle.session.specs.Registers.{Value, r, registers}
 use Rattle.refuse.specs.Refusals.{codeDue, windowDue, placeDue, zeroDue, budgetDue, totalDue}
 use Rattle.running.specs.Run.{runOf, ranOf}
 use Rattle.running.specs.Call.{hostRunOf}
@@ -37,18 +37,6 @@ arena =
     0xe0 ∷ 0xe1 ∷ 0xe2 ∷ 0xe3 ∷ 0xe4 ∷ 0xe5 ∷ 0xe6
     ∷ 0x10 ∷ 0x21 ∷ 0x32 ∷ 0x43 ∷ 0x54 ∷ 0x65 ∷ 0x76 ∷ 0x87 ∷ 0x98 ∷ 0xa9 ∷ 0xba ∷ 0xcb ∷ 0xdc ∷ 0xed ∷ 0xfe ∷ 0x8f
     ∷ 0xf0 ∷ 0xf1 ∷ 0xf2 ∷ 0xf3 ∷ 0xf4 ∷ 0xf5 ∷ 0xf6 ∷ 0xf7 ∷ 0xf8 ∷ 0xf9 ∷ 0xfa ∷ 0xfb ∷ 0xfc ∷ 0xfd ∷ 0xfe ∷ 0xff ∷ 0xc3 ∷ []
-
--- a register and its value; all that are not named are 0
-pub record Value : Type 0 where
-  pub register : ℕ
-  pub value : ℕ
-
-abbrev r : ℕ → ℕ → Value
-r i v = record { register = i; value = v }
-
-abbrev registers : List Value → List ℕ
-registers [] = replicate 32 0
-registers (x ∷ xs) = set (registers xs) (x .register) (x .value)
 
 -- a session that has done 1,000 steps, with a note
 abbrev session : List Value → ℕ → ℕ → Session

@@ -1,3 +1,4 @@
 pub mod Session
 pub mod Numbers
 pub mod Fit
+pub mod Registers
