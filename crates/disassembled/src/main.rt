@@ -3,29 +3,15 @@
 //     L 02c01c04 05 01 addi.d       04 00 00 00000007
 // where L is what the disassembler prints; N a word that it does not know, or that is no instruction of document 01; H one that
 // document 01 says does not exist. Then the word, the numbers of a family and of an operation of it, the mnemonic, and the
-// operands by the names of `Numbers`.
-mod place;
-
+// operands, in the order of `numbered`'s record.
 use isa::Decoded;
-use isa::FieldOperands;
-use isa::HintOperands;
 use isa::Instruction;
-use isa::Operands;
 use libc::STDIN_FILENO;
 use libc::STDOUT_FILENO;
+use numbered::DecodedRecord;
 
 // The length of a line, with its newline.
 const LINE: usize = 48;
-
-// An instruction as numbers. PRELD and PRELDX have hint in the place of rd, a bit field lsb in that of rk and msb in that of imm.
-struct Numbers {
-    family: u64,
-    op: u64,
-    rd: u8,
-    rj: u8,
-    rk: u8,
-    imm: u32,
-}
 
 // The mnemonic that is being counted, by its two numbers, and its counts; then those of the whole input.
 struct Tally {
@@ -40,83 +26,20 @@ struct Tally {
     all_differ: u64,
 }
 
-fn read_numbers(line: &[u8]) -> Numbers {
-    Numbers {
-        family: text::number(line, 11, 2),
-        op: text::number(line, 14, 2),
-        rd: text::pair(line, 30),
-        rj: text::pair(line, 33),
-        rk: text::pair(line, 36),
-        imm: text::half(line, 39),
+// The numbers of a line. It counts families from 0, where `numbered` has "no such instruction".
+fn read_numbers(line: &[u8]) -> DecodedRecord {
+    DecodedRecord {
+        family: std::num::wrapping_add_u64(text::number(line, 11, 2), 1),
+        operation: text::number(line, 14, 2),
+        rd: text::number(line, 30, 2),
+        rj: text::number(line, 33, 2),
+        rk: text::number(line, 36, 2),
+        imm: text::number(line, 39, 8),
     }
 }
 
-// The three kinds of operands as numbers: each field goes where the recording has it.
-fn plain(family: u64, op: u64, o: Operands) -> Numbers {
-    Numbers {
-        family,
-        op,
-        rd: o.rd,
-        rj: o.rj,
-        rk: o.rk,
-        imm: o.imm,
-    }
-}
-
-fn field(family: u64, op: u64, o: FieldOperands) -> Numbers {
-    Numbers {
-        family,
-        op,
-        rd: o.rd,
-        rj: o.rj,
-        rk: o.lsb,
-        imm: o.msb,
-    }
-}
-
-fn hint(family: u64, op: u64, o: HintOperands) -> Numbers {
-    Numbers {
-        family,
-        op,
-        rd: o.hint,
-        rj: o.rj,
-        rk: o.rk,
-        imm: o.imm,
-    }
-}
-
-// Families are numbered in the order of the enum.
-fn numbers_of(i: Instruction) -> Numbers {
-    match i {
-        Instruction::Alu(op, o) => plain(0, place::alu_number(op), o),
-        Instruction::Product(op, o) => plain(1, place::product_number(op), o),
-        Instruction::Division(op, o) => plain(2, place::division_number(op), o),
-        Instruction::Shift(op, o) => plain(3, place::shift_number(op), o),
-        Instruction::ShiftImmediate(op, o) => plain(4, place::shift_number(op), o),
-        Instruction::Immediate(op, o) => plain(5, place::immediate_number(op), o),
-        Instruction::Upper(op, o) => plain(6, place::upper_number(op), o),
-        Instruction::Alsl(op, o) => plain(7, place::alsl_number(op), o),
-        Instruction::Bytepick(op, o) => plain(8, place::bytepick_number(op), o),
-        Instruction::Unary(op, o) => plain(9, place::unary_number(op), o),
-        Instruction::Field(op, o) => field(10, place::field_number(op), o),
-        Instruction::Branch(op, o) => plain(11, place::branch_number(op), o),
-        Instruction::ZeroBranch(op, o) => plain(12, place::zero_branch_number(op), o),
-        Instruction::Jump(op, o) => plain(13, place::jump_number(op), o),
-        Instruction::Load(op, o) => plain(14, place::load_number(op), o),
-        Instruction::LoadIndexed(op, o) => plain(15, place::load_number(op), o),
-        Instruction::Store(op, o) => plain(16, place::store_number(op), o),
-        Instruction::StoreIndexed(op, o) => plain(17, place::store_number(op), o),
-        Instruction::Pointer(op, o) => plain(18, place::pointer_number(op), o),
-        Instruction::Preload(op, o) => hint(19, place::preload_number(op), o),
-        Instruction::Barrier(op, o) => plain(20, place::barrier_number(op), o),
-        Instruction::Trap(op, o) => plain(21, place::trap_number(op), o),
-        Instruction::Assert(op, o) => plain(22, place::assert_number(op), o),
-        Instruction::Config(_, o) => plain(23, 0, o),
-    }
-}
-
-fn same(a: Numbers, b: Numbers) -> bool {
-    let operation = a.family == b.family && a.op == b.op;
+fn same(a: DecodedRecord, b: DecodedRecord) -> bool {
+    let operation = a.family == b.family && a.operation == b.operation;
     let registers = a.rd == b.rd && a.rj == b.rj && a.rk == b.rk;
     operation && registers && a.imm == b.imm
 }
@@ -146,7 +69,7 @@ fn agrees(line: &[u8]) -> bool {
     let d = decoder::decode(text::half(line, 2));
     match d {
         Decoded::Known(i) => {
-            letter == b'L' && same(numbers_of(i), read_numbers(line)) && same_text(line, i)
+            letter == b'L' && same(numbered::of(d), read_numbers(line)) && same_text(line, i)
         }
         Decoded::Unknown => letter == b'N' || letter == b'H',
     }

@@ -1,4 +1,6 @@
-// The number of an operation: its place in the family's order, as the lines of the input count them.
+// The number of an operation: its place in the family's order.
+ghost use mathlib.Core.Path.{_≡_};
+ghost use Rattle.numbered.specs.Operations.{aluNumber, productNumber, divisionNumber, shiftNumber, immediateNumber, upperNumber, alslNumber, bytepickNumber, unaryNumber, fieldNumber, branchNumber, zeroBranchNumber, jumpNumber, loadNumber, storeNumber, pointerNumber, preloadNumber, barrierNumber, trapNumber, assertNumber};
 use alu::Alsl;
 use alu::Alu;
 use alu::Immediate;
@@ -20,7 +22,9 @@ use product::Product;
 use quotient::Division;
 use shift::Shift;
 
-pub fn alu_number(op: Alu) -> u64 {
+pub fn alu_number(op: Alu) -> u64
+    ensures { λ r. ⌜ r ≡ aluNumber op ⌝ }
+{
     match op {
         Alu::AddW => 0,
         Alu::AddD => 1,
@@ -39,7 +43,9 @@ pub fn alu_number(op: Alu) -> u64 {
     }
 }
 
-pub fn product_number(op: Product) -> u64 {
+pub fn product_number(op: Product) -> u64
+    ensures { λ r. ⌜ r ≡ productNumber op ⌝ }
+{
     match op {
         Product::MulW => 0,
         Product::MulD => 1,
@@ -52,7 +58,9 @@ pub fn product_number(op: Product) -> u64 {
     }
 }
 
-pub fn division_number(op: Division) -> u64 {
+pub fn division_number(op: Division) -> u64
+    ensures { λ r. ⌜ r ≡ divisionNumber op ⌝ }
+{
     match op {
         Division::DivW => 0,
         Division::ModW => 1,
@@ -65,7 +73,9 @@ pub fn division_number(op: Division) -> u64 {
     }
 }
 
-pub fn shift_number(op: Shift) -> u64 {
+pub fn shift_number(op: Shift) -> u64
+    ensures { λ r. ⌜ r ≡ shiftNumber op ⌝ }
+{
     match op {
         Shift::SllW => 0,
         Shift::SrlW => 1,
@@ -78,7 +88,9 @@ pub fn shift_number(op: Shift) -> u64 {
     }
 }
 
-pub fn immediate_number(op: Immediate) -> u64 {
+pub fn immediate_number(op: Immediate) -> u64
+    ensures { λ r. ⌜ r ≡ immediateNumber op ⌝ }
+{
     match op {
         Immediate::AddiW => 0,
         Immediate::AddiD => 1,
@@ -92,7 +104,9 @@ pub fn immediate_number(op: Immediate) -> u64 {
     }
 }
 
-pub fn upper_number(op: Upper) -> u64 {
+pub fn upper_number(op: Upper) -> u64
+    ensures { λ r. ⌜ r ≡ upperNumber op ⌝ }
+{
     match op {
         Upper::Lu12iW => 0,
         Upper::Lu32iD => 1,
@@ -103,7 +117,9 @@ pub fn upper_number(op: Upper) -> u64 {
     }
 }
 
-pub fn alsl_number(op: Alsl) -> u64 {
+pub fn alsl_number(op: Alsl) -> u64
+    ensures { λ r. ⌜ r ≡ alslNumber op ⌝ }
+{
     match op {
         Alsl::AlslW => 0,
         Alsl::AlslWu => 1,
@@ -111,14 +127,18 @@ pub fn alsl_number(op: Alsl) -> u64 {
     }
 }
 
-pub fn bytepick_number(op: Bytepick) -> u64 {
+pub fn bytepick_number(op: Bytepick) -> u64
+    ensures { λ r. ⌜ r ≡ bytepickNumber op ⌝ }
+{
     match op {
         Bytepick::BytepickW => 0,
         Bytepick::BytepickD => 1,
     }
 }
 
-pub fn unary_number(op: Unary) -> u64 {
+pub fn unary_number(op: Unary) -> u64
+    ensures { λ r. ⌜ r ≡ unaryNumber op ⌝ }
+{
     match op {
         Unary::ExtWB => 0,
         Unary::ExtWH => 1,
@@ -143,7 +163,9 @@ pub fn unary_number(op: Unary) -> u64 {
     }
 }
 
-pub fn field_number(op: Field) -> u64 {
+pub fn field_number(op: Field) -> u64
+    ensures { λ r. ⌜ r ≡ fieldNumber op ⌝ }
+{
     match op {
         Field::BstrinsW => 0,
         Field::BstrinsD => 1,
@@ -152,7 +174,9 @@ pub fn field_number(op: Field) -> u64 {
     }
 }
 
-pub fn branch_number(op: Branch) -> u64 {
+pub fn branch_number(op: Branch) -> u64
+    ensures { λ r. ⌜ r ≡ branchNumber op ⌝ }
+{
     match op {
         Branch::Beq => 0,
         Branch::Bne => 1,
@@ -163,14 +187,18 @@ pub fn branch_number(op: Branch) -> u64 {
     }
 }
 
-pub fn zero_branch_number(op: ZeroBranch) -> u64 {
+pub fn zero_branch_number(op: ZeroBranch) -> u64
+    ensures { λ r. ⌜ r ≡ zeroBranchNumber op ⌝ }
+{
     match op {
         ZeroBranch::Beqz => 0,
         ZeroBranch::Bnez => 1,
     }
 }
 
-pub fn jump_number(op: Jump) -> u64 {
+pub fn jump_number(op: Jump) -> u64
+    ensures { λ r. ⌜ r ≡ jumpNumber op ⌝ }
+{
     match op {
         Jump::B => 0,
         Jump::Bl => 1,
@@ -178,7 +206,9 @@ pub fn jump_number(op: Jump) -> u64 {
     }
 }
 
-pub fn load_number(op: Load) -> u64 {
+pub fn load_number(op: Load) -> u64
+    ensures { λ r. ⌜ r ≡ loadNumber op ⌝ }
+{
     match op {
         Load::LdB => 0,
         Load::LdH => 1,
@@ -190,7 +220,9 @@ pub fn load_number(op: Load) -> u64 {
     }
 }
 
-pub fn store_number(op: Store) -> u64 {
+pub fn store_number(op: Store) -> u64
+    ensures { λ r. ⌜ r ≡ storeNumber op ⌝ }
+{
     match op {
         Store::StB => 0,
         Store::StH => 1,
@@ -199,7 +231,9 @@ pub fn store_number(op: Store) -> u64 {
     }
 }
 
-pub fn pointer_number(op: Pointer) -> u64 {
+pub fn pointer_number(op: Pointer) -> u64
+    ensures { λ r. ⌜ r ≡ pointerNumber op ⌝ }
+{
     match op {
         Pointer::LdptrW => 0,
         Pointer::LdptrD => 1,
@@ -208,28 +242,36 @@ pub fn pointer_number(op: Pointer) -> u64 {
     }
 }
 
-pub fn preload_number(op: Preload) -> u64 {
+pub fn preload_number(op: Preload) -> u64
+    ensures { λ r. ⌜ r ≡ preloadNumber op ⌝ }
+{
     match op {
         Preload::Preld => 0,
         Preload::Preldx => 1,
     }
 }
 
-pub fn barrier_number(op: Barrier) -> u64 {
+pub fn barrier_number(op: Barrier) -> u64
+    ensures { λ r. ⌜ r ≡ barrierNumber op ⌝ }
+{
     match op {
         Barrier::Dbar => 0,
         Barrier::Ibar => 1,
     }
 }
 
-pub fn trap_number(op: Trap) -> u64 {
+pub fn trap_number(op: Trap) -> u64
+    ensures { λ r. ⌜ r ≡ trapNumber op ⌝ }
+{
     match op {
         Trap::Syscall => 0,
         Trap::Break => 1,
     }
 }
 
-pub fn assert_number(op: Assert) -> u64 {
+pub fn assert_number(op: Assert) -> u64
+    ensures { λ r. ⌜ r ≡ assertNumber op ⌝ }
+{
     match op {
         Assert::AsrtleD => 0,
         Assert::AsrtgtD => 1,

@@ -1,0 +1,58 @@
+-- `numbered::instruction` meets its contract, one line a family. Assumes nothing.
+use mathlib.Core.Path.{refl}
+use borrow.Author.Needs.{needs}
+use Rattle.numbered.proofs.instruction.Statement.{statement}
+use Rattle.numbered.proofs.instruction.Tie as tie
+
+pub instruction-spec : {M : Type 1} → statement M
+instruction-spec =
+    tie.close
+    (tie.spec
+    (λ c. search needs) (λ c κs. search needs) (λ c κs. search needs)
+    (λ c. search needs) (λ c κs. search needs) (λ c κs. search needs)
+    (λ c. search needs) (λ c κs. search needs) (λ c κs. search needs)
+    (λ c. search needs) (λ c κs. search needs) (λ c κs. search needs)
+    (λ c. search needs) (λ c κs. search needs) (λ c κs. search needs)
+    (λ c. search needs) (λ c κs. search needs) (λ c κs. search needs)
+    (λ c. search needs) (λ c κs. search needs) (λ c κs. search needs)
+    (λ c. search needs) (λ c κs. search needs) (λ c κs. search needs)
+    (λ c. search needs) (λ c κs. search needs) (λ c κs. search needs)
+    (λ c. search needs) (λ c κs. search needs) (λ c κs. search needs)
+    (λ c. search needs) (λ c κs. search needs) (λ c κs. search needs)
+    (λ c. search needs) (λ c κs. search needs) (λ c κs. search needs)
+    (λ c. search needs) (λ c κs. search needs) (λ c κs. search needs)
+    (λ c. search needs) (λ c κs. search needs) (λ c κs. search needs)
+    (λ c. search needs) (λ c κs. search needs) (λ c κs. search needs)
+    (λ c. search needs) (λ c κs. search needs) (λ c κs. search needs)
+    (λ c. search needs) (λ c κs. search needs) (λ c κs. search needs)
+    (λ c. search needs) (λ c κs. search needs) (λ c κs. search needs)
+    (λ c. search needs) (λ c κs. search needs) (λ c κs. search needs)
+    (λ c. search needs) (λ c κs. search needs) (λ c κs. search needs)
+    (λ c. search needs) (λ c κs. search needs) (λ c κs. search needs)
+    (λ c. search needs) (λ c κs. search needs) (λ c κs. search needs)
+    (λ c. search needs) (λ c κs. search needs) (λ c κs. search needs)
+    (λ c. search needs) (λ c κs. search needs)
+    (λ c. rw (c .before .before .before .i .given .1, c .plain .ensures, c .before .alu-number .ensures) refl)
+    (λ c. rw (c .before .before .before .i2 .given .1, c .plain2 .ensures, c .before .product-number .ensures) refl)
+    (λ c. rw (c .before .before .before .i3 .given .1, c .plain3 .ensures, c .before .division-number .ensures) refl)
+    (λ c. rw (c .before .before .before .i4 .given .1, c .plain4 .ensures, c .before .shift-number .ensures) refl)
+    (λ c. rw (c .before .before .before .i5 .given .1, c .plain5 .ensures, c .before .shift-number2 .ensures) refl)
+    (λ c. rw (c .before .before .before .i6 .given .1, c .plain6 .ensures, c .before .immediate-number .ensures) refl)
+    (λ c. rw (c .before .before .before .i7 .given .1, c .plain7 .ensures, c .before .upper-number .ensures) refl)
+    (λ c. rw (c .before .before .before .i8 .given .1, c .plain8 .ensures, c .before .alsl-number .ensures) refl)
+    (λ c. rw (c .before .before .before .i9 .given .1, c .plain9 .ensures, c .before .bytepick-number .ensures) refl)
+    (λ c. rw (c .before .before .before .i10 .given .1, c .plain10 .ensures, c .before .unary-number .ensures) refl)
+    (λ c. rw (c .before .before .before .i11 .given .1, c .field .ensures, c .before .field-number .ensures) refl)
+    (λ c. rw (c .before .before .before .i12 .given .1, c .plain11 .ensures, c .before .branch-number .ensures) refl)
+    (λ c. rw (c .before .before .before .i13 .given .1, c .plain12 .ensures, c .before .zero-branch-number .ensures) refl)
+    (λ c. rw (c .before .before .before .i14 .given .1, c .plain13 .ensures, c .before .jump-number .ensures) refl)
+    (λ c. rw (c .before .before .before .i15 .given .1, c .plain14 .ensures, c .before .load-number .ensures) refl)
+    (λ c. rw (c .before .before .before .i16 .given .1, c .plain15 .ensures, c .before .load-number2 .ensures) refl)
+    (λ c. rw (c .before .before .before .i17 .given .1, c .plain16 .ensures, c .before .store-number .ensures) refl)
+    (λ c. rw (c .before .before .before .i18 .given .1, c .plain17 .ensures, c .before .store-number2 .ensures) refl)
+    (λ c. rw (c .before .before .before .i19 .given .1, c .plain18 .ensures, c .before .pointer-number .ensures) refl)
+    (λ c. rw (c .before .before .before .i20 .given .1, c .hint .ensures, c .before .preload-number .ensures) refl)
+    (λ c. rw (c .before .before .before .i21 .given .1, c .plain19 .ensures, c .before .barrier-number .ensures) refl)
+    (λ c. rw (c .before .before .before .i22 .given .1, c .plain20 .ensures, c .before .trap-number .ensures) refl)
+    (λ c. rw (c .before .before .before .i23 .given .1, c .plain21 .ensures, c .before .assert-number .ensures) refl)
+    (λ c. rw (c .before .before .i24 .given .1, c .plain22 .ensures) refl))
