@@ -1,11 +1,12 @@
 //! What one call of our library costs, and what that cost grows with.
 
 use crate::clock;
-use crate::interpreters::{call, started, BUDGET};
-use crate::kernels::{Kernel, OFFSET, WINDOW};
+use crate::interpreters::{started, BUDGET, KERNEL_WINDOW};
+use crate::kernels::Kernel;
 use crate::layout;
 use crate::results::Cost;
 use qhobuziya::raw::{qhobuziya_run, Record, Reply};
+use qhobuziya::{calls::run, Window};
 
 const REPETITIONS: usize = 15;
 
@@ -72,9 +73,9 @@ fn least(budget: u64, mut work: impl FnMut()) -> f64 {
 
 /// A call with budget 0 beside the empty one. Both are called through a pointer that the compiler does not know.
 fn of_call(costs: &mut Vec<Cost>) {
-    let (empty, run): (Run, Run) = (empty, qhobuziya_run);
+    let (empty, ours): (Run, Run) = (empty, qhobuziya_run);
     let mut arena = vec![0u8; SMALL_WINDOW];
-    for (what, function) in [("empty", empty), ("none", run)] {
+    for (what, function) in [("empty", empty), ("none", ours)] {
         let time = least(0, || {
             // The pointers and lengths are those of two slices that do not overlap.
             let reply = unsafe {
@@ -93,7 +94,7 @@ fn of_budget(kernel: &Kernel, costs: &mut Vec<Cost>) {
     let mut arena = kernel.arena(BUDGET);
     for budget in BUDGETS {
         let time = least(budget, || {
-            let reply = call(&kernel.code, &mut arena, OFFSET, WINDOW, started(), budget);
+            let reply = run(&kernel.code, &mut arena, KERNEL_WINDOW, started(), budget);
             assert_eq!(reply.steps, budget);
         });
         costs.push(cost("budget", budget, time));
@@ -103,11 +104,15 @@ fn of_budget(kernel: &Kernel, costs: &mut Vec<Cost>) {
 /// Growing code, of which only the first word is run.
 fn of_code(budget: u64, costs: &mut Vec<Cost>) {
     let mut arena = vec![0u8; SMALL_WINDOW];
+    let window = Window {
+        offset: 0,
+        length: SMALL_WINDOW,
+    };
     for length in CODES {
         let mut code = BRANCH_TO_ITSELF.to_vec();
         code.resize(length as usize, 0);
         let time = least(budget, || {
-            let reply = call(&code, &mut arena, 0, SMALL_WINDOW, started(), budget);
+            let reply = run(&code, &mut arena, window, started(), budget);
             assert_eq!(reply.steps, budget);
         });
         costs.push(cost(&format!("code{}", budget), length, time));
@@ -121,9 +126,12 @@ fn of_arena(budget: u64, costs: &mut Vec<Cost>) {
     session.regs[5] = 0x4000_0000;
     for length in ARENAS {
         let mut arena = vec![1u8; length as usize];
-        let offset = arena.len() - SMALL_WINDOW;
+        let window = Window {
+            offset: arena.len() - SMALL_WINDOW,
+            length: SMALL_WINDOW,
+        };
         let time = least(budget, || {
-            let reply = call(&code, &mut arena, offset, SMALL_WINDOW, session, budget);
+            let reply = run(&code, &mut arena, window, session, budget);
             assert_eq!(reply.steps, budget);
         });
         costs.push(cost(&format!("arena{}", budget), length, time));

@@ -2,10 +2,16 @@
 //! the session that came back until the kernel stops at its SYSCALL.
 
 use crate::kernels::{Kernel, OFFSET, WINDOW};
-use qhobuziya::raw::{qhobuziya_run, Record, Reply};
+use qhobuziya::raw::Record;
+use qhobuziya::{calls, Window};
 
 pub const BUDGET: u64 = 1_000_000;
 pub const START: u64 = 0x10000;
+/// The window of every kernel.
+pub const KERNEL_WINDOW: Window = Window {
+    offset: OFFSET,
+    length: WINDOW,
+};
 const SYSCALL: u64 = 11;
 
 /// What a kernel leaves: r4 and the number of steps.
@@ -27,27 +33,10 @@ pub fn started() -> Record {
     }
 }
 
-/// Our library's run on slices.
-pub fn call(code: &[u8], arena: &mut [u8], offset: usize, length: usize, session: Record, budget: u64) -> Reply {
-    // The pointers and lengths are those of two slices that do not overlap.
-    unsafe {
-        qhobuziya_run(
-            code.as_ptr(),
-            code.len(),
-            arena.as_mut_ptr(),
-            arena.len(),
-            offset,
-            length,
-            session,
-            budget,
-        )
-    }
-}
-
 pub fn ours(kernel: &Kernel, arena: &mut [u8]) -> Result<Finish, String> {
     let mut session = started();
     loop {
-        let reply = call(&kernel.code, arena, OFFSET, WINDOW, session, BUDGET);
+        let reply = calls::run(&kernel.code, arena, KERNEL_WINDOW, session, BUDGET);
         session = reply.session;
         if reply.refused != 0 || reply.ecode != 0 {
             return ended(

@@ -1,11 +1,11 @@
 //! Decoding: any words, words of every row, and those a bit away from them.
 
 use crate::compare::{self, Compared};
-use crate::library;
 use crate::random::Random;
 use crate::table;
 use crate::tally::Tally;
 use crate::words::any_of_table;
+use qhobuziya::calls;
 
 /// How many words one case decodes.
 const WORDS: usize = 48;
@@ -24,7 +24,7 @@ pub fn words(random: &mut Random, tally: &mut Tally) -> Compared {
 }
 
 fn one(word: u32, tally: &mut Tally) -> Compared {
-    let theirs = library::decode(word);
+    let theirs = calls::decode(word);
     let ours = reference::decode(word);
     tally.decode(ours.is_some());
     let (ours_named, operands) = match &ours {

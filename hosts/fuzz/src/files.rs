@@ -2,11 +2,11 @@
 
 use crate::compare::{self, Compared};
 use crate::guests::{blank, noted};
-use crate::library;
 use crate::random::Random;
 use crate::record::{record_of, session_of};
 use crate::runs::GUARD;
 use crate::tally::Tally;
+use qhobuziya::calls;
 use qhobuziya::raw::Record;
 
 /// Where the kind bytes of a file with a note are.
@@ -39,7 +39,7 @@ pub fn write(random: &mut Random, tally: &mut Tally) -> Compared {
     };
     let mut buffer = random.bytes(length + 2 * GUARD);
     let mut other = buffer.clone();
-    let theirs = library::write(record, &mut buffer[GUARD..GUARD + length]);
+    let theirs = calls::write(record, &mut buffer[GUARD..GUARD + length]);
     let ours = reference::write(&session_of(&record), &mut other[GUARD..GUARD + length]);
     tally.write(ours.refused);
     let compared = compare::number("refused", theirs.refused, ours.refused)
@@ -54,7 +54,7 @@ pub fn write(random: &mut Random, tally: &mut Tally) -> Compared {
 
 fn read_back(file: &[u8], record: &Record, tally: &mut Tally) -> Compared {
     let wanted = record_of(&session_of(record));
-    let reading = library::read(file);
+    let reading = calls::read(file);
     compare::number("refused of what was written", reading.refused, 0)?;
     compare::record(&reading.session, &wanted).map_err(|text| format!("what was written reads back otherwise: {}", text))?;
     both_read(file, tally)
@@ -71,7 +71,7 @@ pub fn read(random: &mut Random, tally: &mut Tally) -> Compared {
 
 fn both_read(file: &[u8], tally: &mut Tally) -> Compared {
     let kept = file.to_vec();
-    let theirs = library::read(file);
+    let theirs = calls::read(file);
     let ours = reference::read(&kept);
     tally.read(ours.refused);
     let compared = compare::number("refused", theirs.refused, ours.refused)

@@ -6,7 +6,6 @@ mod compare;
 mod decodes;
 mod files;
 mod guests;
-mod library;
 mod random;
 mod record;
 mod runs;

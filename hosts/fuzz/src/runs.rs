@@ -2,11 +2,11 @@
 
 use crate::compare::{self, Compared};
 use crate::guests::{arena_length, budget, entry, guest, inner_window, outer_window, spoil, told, windows, Guest};
-use crate::library;
 use crate::random::Random;
 use crate::record::record_after;
 use crate::tally::Tally;
 use qhobuziya::raw::{Record, Reply};
+use qhobuziya::{calls, Window};
 use reference::CODE_BASE;
 
 /// Bytes before and behind an arena or a buffer that no call may touch, and that no call is told of.
@@ -47,7 +47,7 @@ impl Arenas {
         let Guest {
             offset, length, record, ..
         } = *guest;
-        let theirs = library::run(&code, &mut self.library[inner.clone()], offset, length, record, budget);
+        let theirs = calls::run(&code, &mut self.library[inner.clone()], Window { offset, length }, record, budget);
         let ours = reference::run(&guest.code, &mut self.reference[inner], offset, length, &guest.session, budget);
         tally.run(&ours);
         compare::reply(&theirs, &expected(&ours, &guest.record))?;
@@ -109,7 +109,7 @@ pub fn sequence(random: &mut Random, tally: &mut Tally) -> Compared {
 /// One answer on both sides. Each side goes on from its own session.
 fn answer(guest: &mut Guest, value: u64, tally: &mut Tally) -> Compared {
     let code = guest.code.clone();
-    let theirs = library::answer(&code, guest.record, value);
+    let theirs = calls::answer(&code, guest.record, value);
     let ours = reference::answer(&guest.code, &guest.session, value);
     tally.answer(&ours);
     compare::reply(&theirs, &expected(&ours, &guest.record))?;

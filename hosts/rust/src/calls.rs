@@ -1,4 +1,5 @@
-//! The five calls over slices. All `unsafe` of the crate is here.
+//! The five calls over slices and the archives' own records, for a server that keeps its sessions as records. Any record is fine. All
+//! `unsafe` of the crate is here.
 //!
 //! What the archives ask for is in `qhobuziya.h`: a pointer may be null only where its length is 0, the length is that of what can be read
 //! or written there, and code and arena do not overlap. A slice has all of this. Its pointer is never null, not even that of an empty one,
@@ -15,6 +16,7 @@ const _: () = assert!(std::mem::size_of::<Written>() == 16);
 const _: () = assert!(std::mem::size_of::<Reading>() == 312);
 const _: () = assert!(std::mem::size_of::<Decoded>() == 48);
 
+/// [`run`](crate::run) on a record. A refused one gives back the record that came, byte for byte.
 pub fn run(code: &[u8], arena: &mut [u8], window: Window, session: Record, budget: u64) -> Reply {
     let (place, length) = (arena.as_mut_ptr(), arena.len());
     // SAFETY: `code` can be read and the arena written for their lengths, and `&mut` keeps them apart. A window that does not fit in the
@@ -33,21 +35,25 @@ pub fn run(code: &[u8], arena: &mut [u8], window: Window, session: Record, budge
     }
 }
 
+/// [`answer`](crate::answer) on a record. A refused one gives back the record that came, byte for byte.
 pub fn answer(code: &[u8], session: Record, value: u64) -> Reply {
     // SAFETY: `code` can be read for its length.
     unsafe { raw::qhobuziya_answer(code.as_ptr(), code.len(), session, value) }
 }
 
+/// [`write`](crate::write) of a record.
 pub fn write(session: Record, buffer: &mut [u8]) -> Written {
     // SAFETY: the buffer can be written for its length. One that is too short is refused.
     unsafe { raw::qhobuziya_write(session, buffer.as_mut_ptr(), buffer.len()) }
 }
 
+/// [`read`](crate::read), with the offset of an accepted file too: its length.
 pub fn read(file: &[u8]) -> Reading {
     // SAFETY: `file` can be read for its length.
     unsafe { raw::qhobuziya_read(file.as_ptr(), file.len()) }
 }
 
+/// [`decode`](crate::decode) in numbers.
 pub fn decode(word: u32) -> Decoded {
     // SAFETY: it takes a number and returns numbers; every word is fine.
     unsafe { raw::qhobuziya_decode(word) }

@@ -25,7 +25,7 @@
 #![deny(unsafe_code)]
 
 #[allow(unsafe_code)]
-mod calls;
+pub mod calls;
 mod instruction;
 #[allow(missing_docs)]
 pub mod raw;
