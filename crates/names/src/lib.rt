@@ -1,10 +1,10 @@
 // A decoded instruction as text: its mnemonic, then its operands in the manual's order, as `addi.d r4, r0, 7`. A number is the
 // field's own value, and signed where the manual sign-extends it: `beq r4, r5, -3` goes three words back.
-mod control;
 mod line;
-mod values;
+mod mnemonics;
 
 use alu::Immediate;
+use isa::Decoded;
 use isa::FieldOperands;
 use isa::HintOperands;
 use isa::Instruction;
@@ -28,33 +28,32 @@ const OFFS21: u64 = 0x20_0000;
 const OFFS26: u64 = 0x400_0000;
 
 // rd, rj
-fn pair(name: [u8; 12], o: Operands) -> Line {
-    Line::begin(name).register(o.rd).comma().register(o.rj)
+fn pair(name: Line, o: Operands) -> Line {
+    name.register(o.rd).comma().register(o.rj)
 }
 
 // rd, rj, rk
-fn triple(name: [u8; 12], o: Operands) -> Line {
+fn triple(name: Line, o: Operands) -> Line {
     pair(name, o).comma().register(o.rk)
 }
 
 // rd, rj, a number that is not signed
-fn plain(name: [u8; 12], o: Operands) -> Line {
+fn plain(name: Line, o: Operands) -> Line {
     pair(name, o).comma().number(o.imm)
 }
 
 // rd, rj, a signed number
-fn signed(name: [u8; 12], o: Operands, values: u64) -> Line {
+fn signed(name: Line, o: Operands, values: u64) -> Line {
     pair(name, o).comma().signed(o.imm, values)
 }
 
 // rd, rj, rk, a number that is not signed
-fn picked(name: [u8; 12], o: Operands) -> Line {
+fn picked(name: Line, o: Operands) -> Line {
     triple(name, o).comma().number(o.imm)
 }
 
 // ANDI, ORI and XORI take their number as it is.
-fn immediate(op: Immediate, o: Operands) -> Line {
-    let name = values::immediate(op);
+fn immediate(name: Line, op: Immediate, o: Operands) -> Line {
     match op {
         Immediate::Andi | Immediate::Ori | Immediate::Xori => plain(name, o),
         Immediate::Addu16iD => signed(name, o, SI16),
@@ -63,46 +62,38 @@ fn immediate(op: Immediate, o: Operands) -> Line {
 }
 
 // rd, si20
-fn upper(name: [u8; 12], o: Operands) -> Line {
-    Line::begin(name).register(o.rd).comma().signed(o.imm, SI20)
+fn upper(name: Line, o: Operands) -> Line {
+    name.register(o.rd).comma().signed(o.imm, SI20)
 }
 
 // rd, rj, msb, lsb
-fn field(name: [u8; 12], o: FieldOperands) -> Line {
-    let line = Line::begin(name)
-        .register(o.rd)
-        .comma()
-        .register(o.rj)
-        .comma();
+fn field(name: Line, o: FieldOperands) -> Line {
+    let line = name.register(o.rd).comma().register(o.rj).comma();
     line.number(o.msb).comma().number(o.lsb as u32)
 }
 
 // rj, rd, offs16
-fn branch(name: [u8; 12], o: Operands) -> Line {
-    let line = Line::begin(name).register(o.rj).comma().register(o.rd);
+fn branch(name: Line, o: Operands) -> Line {
+    let line = name.register(o.rj).comma().register(o.rd);
     line.comma().signed(o.imm, SI16)
 }
 
 // rj, offs21
-fn zero_branch(name: [u8; 12], o: Operands) -> Line {
-    Line::begin(name)
-        .register(o.rj)
-        .comma()
-        .signed(o.imm, OFFS21)
+fn zero_branch(name: Line, o: Operands) -> Line {
+    name.register(o.rj).comma().signed(o.imm, OFFS21)
 }
 
 // B and BL have an offset alone.
-fn jump(op: Jump, o: Operands) -> Line {
-    let name = control::jump(op);
+fn jump(name: Line, op: Jump, o: Operands) -> Line {
     match op {
         Jump::Jirl => signed(name, o, SI16),
-        _ => Line::begin(name).signed(o.imm, OFFS26),
+        _ => name.signed(o.imm, OFFS26),
     }
 }
 
 // hint, rj, and an offset or a register
-fn preload(op: Preload, o: HintOperands) -> Line {
-    let line = Line::begin(control::preload(op)).number(o.hint as u32);
+fn preload(name: Line, op: Preload, o: HintOperands) -> Line {
+    let line = name.number(o.hint as u32);
     let both = line.comma().register(o.rj).comma();
     match op {
         Preload::Preld => both.signed(o.imm, SI12),
@@ -111,40 +102,42 @@ fn preload(op: Preload, o: HintOperands) -> Line {
 }
 
 // a hint or a code
-fn lone(name: [u8; 12], o: Operands) -> Line {
-    Line::begin(name).number(o.imm)
+fn lone(name: Line, o: Operands) -> Line {
+    name.number(o.imm)
 }
 
 // rj, rk
-fn assertion(name: [u8; 12], o: Operands) -> Line {
-    Line::begin(name).register(o.rj).comma().register(o.rk)
+fn assertion(name: Line, o: Operands) -> Line {
+    name.register(o.rj).comma().register(o.rk)
 }
 
 pub fn text(i: Instruction) -> Line {
+    let r = numbered::of(Decoded::Known(i));
+    let name = mnemonics::mnemonic(r.family, r.operation);
     match i {
-        Instruction::Alu(op, o) => triple(values::alu(op), o),
-        Instruction::Product(op, o) => triple(values::product(op), o),
-        Instruction::Division(op, o) => triple(values::division(op), o),
-        Instruction::Shift(op, o) => triple(values::shift(op), o),
-        Instruction::ShiftImmediate(op, o) => plain(values::shift_immediate(op), o),
-        Instruction::Immediate(op, o) => immediate(op, o),
-        Instruction::Upper(op, o) => upper(values::upper(op), o),
-        Instruction::Alsl(op, o) => picked(values::alsl(op), o),
-        Instruction::Bytepick(op, o) => picked(values::bytepick(op), o),
-        Instruction::Unary(op, o) => pair(values::unary(op), o),
-        Instruction::Field(op, o) => field(values::field(op), o),
-        Instruction::Branch(op, o) => branch(control::branch(op), o),
-        Instruction::ZeroBranch(op, o) => zero_branch(control::zero_branch(op), o),
-        Instruction::Jump(op, o) => jump(op, o),
-        Instruction::Load(op, o) => signed(control::load(op), o, SI12),
-        Instruction::LoadIndexed(op, o) => triple(control::load_indexed(op), o),
-        Instruction::Store(op, o) => signed(control::store(op), o, SI12),
-        Instruction::StoreIndexed(op, o) => triple(control::store_indexed(op), o),
-        Instruction::Pointer(op, o) => signed(control::pointer(op), o, SI14),
-        Instruction::Preload(op, o) => preload(op, o),
-        Instruction::Barrier(op, o) => lone(control::barrier(op), o),
-        Instruction::Trap(op, o) => lone(control::trap(op), o),
-        Instruction::Assert(op, o) => assertion(control::assertion(op), o),
-        Instruction::Config(_, o) => pair(*b"cpucfg      ", o),
+        Instruction::Alu(_, o) => triple(name, o),
+        Instruction::Product(_, o) => triple(name, o),
+        Instruction::Division(_, o) => triple(name, o),
+        Instruction::Shift(_, o) => triple(name, o),
+        Instruction::ShiftImmediate(_, o) => plain(name, o),
+        Instruction::Immediate(op, o) => immediate(name, op, o),
+        Instruction::Upper(_, o) => upper(name, o),
+        Instruction::Alsl(_, o) => picked(name, o),
+        Instruction::Bytepick(_, o) => picked(name, o),
+        Instruction::Unary(_, o) => pair(name, o),
+        Instruction::Field(_, o) => field(name, o),
+        Instruction::Branch(_, o) => branch(name, o),
+        Instruction::ZeroBranch(_, o) => zero_branch(name, o),
+        Instruction::Jump(op, o) => jump(name, op, o),
+        Instruction::Load(_, o) => signed(name, o, SI12),
+        Instruction::LoadIndexed(_, o) => triple(name, o),
+        Instruction::Store(_, o) => signed(name, o, SI12),
+        Instruction::StoreIndexed(_, o) => triple(name, o),
+        Instruction::Pointer(_, o) => signed(name, o, SI14),
+        Instruction::Preload(op, o) => preload(name, op, o),
+        Instruction::Barrier(_, o) => lone(name, o),
+        Instruction::Trap(_, o) => lone(name, o),
+        Instruction::Assert(_, o) => assertion(name, o),
+        Instruction::Config(_, o) => pair(name, o),
     }
 }

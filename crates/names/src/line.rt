@@ -20,9 +20,9 @@ pub fn put(buffer: &mut [u8], at: usize, bytes: &[u8]) -> usize {
 }
 
 // The length of a name: it ends before its first blank.
-fn length(name: [u8; 12]) -> usize {
+fn length(name: &[u8]) -> usize {
     let mut n: usize = 0;
-    for i in 0usize..12 {
+    for i in 0usize..name.len() {
         if name[i] != b' ' {
             n = i + 1;
         }
@@ -45,9 +45,9 @@ impl Line {
     }
 
     // A mnemonic, before its operands.
-    pub fn begin(name: [u8; 12]) -> Line {
+    pub fn begin(name: &[u8]) -> Line {
         let n = length(name);
-        Line::empty().add(text::part(&name, 0, n)).add(b" ")
+        Line::empty().add(text::part(name, 0, n)).add(b" ")
     }
 
     pub fn add(self, more: &[u8]) -> Line {

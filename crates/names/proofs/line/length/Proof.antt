@@ -1,4 +1,4 @@
--- `names::line::length` is safe and ends: i is at most 12, and what is left falls. Assumes nothing.
+-- `names::line::length` is safe and ends: i is at most the name's length, and what is left falls. Assumes nothing.
 use Prim.Native.Nat.{_-_, _≤_}
 use native.Mathlib.Omega.{arith}
 use borrow.Author.Needs.{needs}
@@ -6,10 +6,10 @@ use Rattle.names.proofs.line.length.Statement.{statement}
 use Rattle.names.proofs.line.length.Tie as tie
 
 abbrev Inv-loop : tie.InvT-loop
-Inv-loop name n₀ i₀ n i = i ≤ 12
+Inv-loop name n₀ i₀ i-end n i = i ≤ i-end
 
 abbrev μ-loop : tie.MeasureT-loop
-μ-loop name n₀ i₀ n i = 12 - i
+μ-loop name n₀ i₀ i-end n i = i-end - i
 
 pub length-spec : {M : Type 1} → statement M
 length-spec =
@@ -18,7 +18,7 @@ length-spec =
     Inv-loop
     μ-loop
     (λ c. omega arith)
-    (λ c. search needs)
+    (λ c. omega arith)
     (λ c. omega arith)
     (λ c. omega arith)
     (λ c. omega arith)
