@@ -7,8 +7,8 @@ fn named(names: &[u8], operation: u64) -> Line {
     Line::begin(text::part(names, at, 10))
 }
 
-// What computes a value.
-fn of_values(family: u64, operation: u64) -> Line {
+// What computes a value from registers, and the shifts.
+fn of_registers(family: u64, operation: u64) -> Line {
     match family {
         1 => named(
             b"add.w     add.d     sub.w     sub.d     slt       sltu      and       or        nor       xor       andn      orn       maskeqz   masknez   ",
@@ -26,10 +26,16 @@ fn of_values(family: u64, operation: u64) -> Line {
             b"sll.w     srl.w     sra.w     rotr.w    sll.d     srl.d     sra.d     rotr.d    ",
             operation,
         ),
-        5 => named(
+        _ => named(
             b"slli.w    srli.w    srai.w    rotri.w   slli.d    srli.d    srai.d    rotri.d   ",
             operation,
         ),
+    }
+}
+
+// What computes a value with a field of the word, and from one register.
+fn of_fields(family: u64, operation: u64) -> Line {
+    match family {
         6 => named(
             b"addi.w    addi.d    addu16i.d slti      sltui     lu52i.d   andi      ori       xori      ",
             operation,
@@ -77,9 +83,11 @@ fn of_others(family: u64, operation: u64) -> Line {
 }
 
 pub fn mnemonic(family: u64, operation: u64) -> Line {
-    if family < 12 {
-        of_values(family, operation)
-    } else {
-        of_others(family, operation)
+    if family < 6 {
+        return of_registers(family, operation);
     }
+    if family < 12 {
+        return of_fields(family, operation);
+    }
+    of_others(family, operation)
 }
