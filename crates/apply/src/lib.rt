@@ -2,6 +2,7 @@
 ghost use mathlib.Core.Path.{_≡_};
 ghost use Prim.Native.Nat.{_+_, _^_, _≤_, _<_};
 ghost use lib.ListN.{length};
+ghost use Rattle.apply.specs.Machine.{state};
 ghost use Rattle.apply.specs.Apply.{accessOf, applyOf, Meets};
 use effect::Effect;
 use fault::Fault;
@@ -56,7 +57,7 @@ pub fn apply(
     pc: GuestAddr,
 ) -> Turned
     requires { ⌜ window .start .0 + window .len ≤ length (now arena) ⌝ }
-    ensures { λ r. ⌜ Meets r (now (regs .exit)) (now (arena .exit)) (applyOf window e (now (regs .entry)) pc (now (arena .entry))) ⌝ }
+    ensures { λ r. ⌜ Meets r (state (now (regs .exit)) pc (now (arena .exit))) (applyOf window e (state (now (regs .entry)) pc (now (arena .entry)))) ⌝ }
 {
     match e {
         Effect::Write(rd, value, to) => {

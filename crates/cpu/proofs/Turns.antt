@@ -1,42 +1,39 @@
 -- From a turn to a step: what the turn promised, as the step's result.
 use mathlib.Core.Path.{_≡_, refl, sym, ap, subst, _∙_}
-use mathlib.Core.List.{List}
 use Prim.Native.Nat.{ℕ}
 use native.Mathlib.Omega.{arith}
 use Rattle.place.specs.declared.GuestAddr.{GuestAddr}
-use Rattle.place.specs.declared.Window.{Window}
 use Rattle.fault.specs.declared.Fault.{Fault}
 use Rattle.apply.specs.declared.End.{End}
-use Rattle.apply.specs.declared.Stepped.{Stepped}
 use Rattle.apply.specs.declared.Turned.{Turned}
-use Rattle.apply.specs.Apply.{turnedOf, LeavesRegisters, Meets}
-use Rattle.cpu.specs.Step.{Steps, stepOf}
+use Rattle.apply.specs.Machine.{Ground, State, Ended, withPc, withRegs, done, raised}
+use Rattle.apply.specs.Apply.{turnedOf, LeavesState, Meets}
+use Rattle.cpu.specs.Step.{stepOf}
 use Rattle.cpu.proofs.Raising.{raise-unchanged}
 
 -- a turn that goes on has made the step
-pub goes-on : (s : Stepped × List ℕ) (t : Turned) (to : GuestAddr) (gr arena : List ℕ) → t ≡ Turned.On to → Meets t gr arena s
-    → Steps (record { end = End.Done; regs = gr; pc = to }) arena s
-goes-on s t to gr arena e m = go (s .0 .end) refl (sym e ∙ m .0)
+pub goes-on : (x : Ended) (t : Turned) (to : GuestAddr) (u : State) → t ≡ Turned.On to → Meets t u x → x ≡ done (withPc to u)
+goes-on x t to u e m = go (x .end) refl (sym e ∙ m .0)
   where
-    same : gr ≡ s .0 .regs
-    same = subst (λ (x : Turned). LeavesRegisters x gr (s .0 .regs)) e (m .2)
+    left : withPc to u ≡ x .state
+    left = subst (λ (y : Turned). LeavesState y u (x .state)) e (m .1)
 
-    go : (x : End) → s .0 .end ≡ x → Turned.On to ≡ turnedOf x (s .0 .pc) → Steps (record { end = End.Done; regs = gr; pc = to }) arena s
-    go End.Done p q = let h : to ≡ s .0 .pc = cc in (rw (h, same, ← p) refl, m .1)
+    go : (y : End) → x .end ≡ y → Turned.On to ≡ turnedOf y (x .state .pc) → x ≡ done (withPc to u)
+    go End.Done p q = rw (left, ← p) refl
     go (End.Raised f) p q = let z : _≡_ {A = ℕ} 0 1 = cc in absurd (omega arith)
 
 -- a turn that raises has changed nothing, and the old registers are the step's
-pub stops : (code : List ℕ) (w : Window) (gr : List ℕ) (pc : GuestAddr) (arena : List ℕ) (t : Turned) (f : Fault) (now after : List ℕ)
-    → t ≡ Turned.Raised f → Meets t now after (stepOf code w gr pc arena)
-    → Steps (record { end = End.Raised f; regs = gr; pc = pc }) after (stepOf code w gr pc arena)
-stops code w gr pc arena t f now after e m = go (stepOf code w gr pc arena .0 .end) refl (sym e ∙ m .0)
+pub stops : (g : Ground) (s : State) (t : Turned) (f : Fault) (u : State) → t ≡ Turned.Raised f → Meets t u (stepOf g s)
+    → stepOf g s ≡ raised f (withRegs (s .regs) u)
+stops g s t f u e m = go (stepOf g s .end) refl (sym e ∙ m .0)
   where
-    s : Stepped × List ℕ
-    s = stepOf code w gr pc arena
+    left : withRegs (stepOf g s .state .regs) u ≡ stepOf g s .state
+    left = subst (λ (y : Turned). LeavesState y u (stepOf g s .state)) e (m .1)
 
-    go : (x : End) → s .0 .end ≡ x → Turned.Raised f ≡ turnedOf x (s .0 .pc) → Steps (record { end = End.Raised f; regs = gr; pc = pc }) after s
+    go : (y : End) → stepOf g s .end ≡ y → Turned.Raised f ≡ turnedOf y (stepOf g s .state .pc) → stepOf g s ≡ raised f (withRegs (s .regs) u)
     go End.Done p q = let z : _≡_ {A = ℕ} 0 1 = cc in absurd (omega arith)
-    go (End.Raised g) p q =
-        let h : f ≡ g = cc in
-        let u = raise-unchanged code w gr pc arena f (p ∙ ap End.Raised (sym h)) in
-        (sym (ap (λ (x : Stepped × List ℕ). x .0) u), m .1)
+    go (End.Raised k) p q =
+        let h : f ≡ k = cc in
+        let d = raise-unchanged g s f (p ∙ ap End.Raised (sym h)) in
+        let w : withRegs (s .regs) u ≡ s = subst (λ (x : Ended). withRegs (x .state .regs) u ≡ x .state) d left in
+        d ∙ ap (raised f) (sym w)

@@ -7,7 +7,6 @@ use lib.ListN.{length}
 use Rattle.bytes.specs.Bytes.{getLE}
 use Rattle.place.specs.declared.FetchPlace.{FetchPlace}
 use Rattle.place.specs.declared.GuestAddr.{GuestAddr}
-use Rattle.place.specs.declared.Window.{Window}
 use Rattle.place.specs.Place.{fetchPlaceOf}
 use Rattle.isa.specs.declared.Decoded.{Decoded}
 use Rattle.opcode.specs.Decode.{decodeOf}
@@ -15,7 +14,8 @@ use Rattle.fault.specs.declared.Fault.{Fault}
 use Rattle.effect.specs.Effect.{effectOf}
 use Rattle.cpu.specs.declared.Fetched.{Fetched}
 use Rattle.apply.specs.declared.Stepped.{Stepped}
-use Rattle.apply.specs.Apply.{raised, applyOf}
+use Rattle.apply.specs.Machine.{Ground, State, Ended, raised, steppedOf}
+use Rattle.apply.specs.Apply.{applyOf}
 
 -- Fetch: the word at pc
 abbrev pub fetchedAt : FetchPlace → List ℕ → Fetched
@@ -26,17 +26,17 @@ unfoldable pub fetchOf : List ℕ → GuestAddr → Fetched
 fetchOf code pc = fetchedAt (fetchPlaceOf (length code) pc) code
 
 -- Step: fetch, decode, ask, apply
-abbrev pub stepDecoded : Decoded → ℕ → Window → List ℕ → GuestAddr → List ℕ → Stepped × List ℕ
-stepDecoded (Decoded.Known i) word w gr pc arena = applyOf w (effectOf i gr pc) gr pc arena
-stepDecoded Decoded.Unknown word w gr pc arena = raised (Fault.Ine word) gr pc arena
+abbrev pub stepDecoded : Decoded → ℕ → Ground → State → Ended
+stepDecoded (Decoded.Known i) word g s = applyOf (g .window) (effectOf i (s .regs) (s .pc)) s
+stepDecoded Decoded.Unknown word g s = raised (Fault.Ine word) s
 
-abbrev pub stepFetched : Fetched → Window → List ℕ → GuestAddr → List ℕ → Stepped × List ℕ
-stepFetched (Fetched.Word word) w gr pc arena = stepDecoded (decodeOf word) word w gr pc arena
-stepFetched Fetched.Bad w gr pc arena = raised (Fault.Adef pc) gr pc arena
+abbrev pub stepFetched : Fetched → Ground → State → Ended
+stepFetched (Fetched.Word word) g s = stepDecoded (decodeOf word) word g s
+stepFetched Fetched.Bad g s = raised (Fault.Adef (s .pc)) s
 
-unfoldable pub stepOf : List ℕ → Window → List ℕ → GuestAddr → List ℕ → Stepped × List ℕ
-stepOf code w gr pc arena = stepFetched (fetchOf code pc) w gr pc arena
+unfoldable pub stepOf : Ground → State → Ended
+stepOf g s = stepFetched (fetchOf (g .code) (s .pc)) g s
 
 -- The promise of `step`: the result and every byte of the arena
-abbrev pub Steps : Stepped → List ℕ → Stepped × List ℕ → Type 0
-Steps r arena s = (r ≡ s .0) × (arena ≡ s .1)
+abbrev pub Steps : Stepped → List ℕ → Ended → Type 0
+Steps r arena e = (r ≡ steppedOf e) × (arena ≡ e .state .arena)

@@ -2,6 +2,7 @@
 ghost use mathlib.Core.Path.{_≡_};
 ghost use Prim.Native.Nat.{_+_, _≤_};
 ghost use lib.ListN.{length};
+ghost use Rattle.apply.specs.Machine.{ground, state};
 ghost use Rattle.apply.specs.Apply.{Meets};
 ghost use Rattle.cpu.specs.Step.{fetchOf, stepOf, Steps};
 use apply::End;
@@ -36,7 +37,7 @@ pub fn turn(
     pc: GuestAddr,
 ) -> Turned
     requires { ⌜ window .start .0 + window .len ≤ length (now arena) ⌝ }
-    ensures { λ r. ⌜ Meets r (now (regs .exit)) (now (arena .exit)) (stepOf (now (code .entry)) window (now (regs .entry)) pc (now (arena .entry))) ⌝ }
+    ensures { λ r. ⌜ Meets r (state (now (regs .exit)) pc (now (arena .exit))) (stepOf (ground (now (code .entry)) window) (state (now (regs .entry)) pc (now (arena .entry)))) ⌝ }
 {
     match fetch(code, pc) {
         Fetched::Word(word) => {
@@ -56,7 +57,7 @@ pub fn step(
     pc: GuestAddr,
 ) -> Stepped
     requires { ⌜ window .start .0 + window .len ≤ length (now arena) ⌝ }
-    ensures { λ r. ⌜ Steps r (now (arena .exit)) (stepOf (now (code .entry)) window regs pc (now (arena .entry))) ⌝ }
+    ensures { λ r. ⌜ Steps r (now (arena .exit)) (stepOf (ground (now (code .entry)) window) (state regs pc (now (arena .entry)))) ⌝ }
 {
     let mut next = regs;
     match turn(code, arena, window, &mut next, pc) {

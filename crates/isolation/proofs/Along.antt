@@ -13,13 +13,13 @@ use Rattle.isolation.proofs.Isolated.{unchanged, outside-call, same-cal
 
 -- an own act changes nothing outside the window
 outside-act : (a : Act) (w : Window) (s : Session) (arena : List ℕ) → OutsideUnchanged w arena (acted a w s arena .1)
-outside-act (run code budget) w s arena = outside-call code w s budget arena
+outside-act (run code budget) w s arena = outside-call _ s budget arena
 outside-act (answer code value) w s arena = unchanged w arena
 
 -- another session's run leaves the window as it was
-other-run : (v w : Window) (f : Foreign) (A B : List ℕ) → ShareNoByte v (f .window) → Twins v A w B → Twins v (afterOther f A) w B
+other-run : (v w : Window) (f : Foreign) (A B : List ℕ) → ShareNoByte v (f .ground .window) → Twins v A w B → Twins v (afterOther f A) w B
 other-run v w f A B apart t =
-    let o = outside-call (f .code) (f .window) (f .session) (f .budget) A in
+    let o = outside-call (f .ground) (f .session) (f .budget) A in
     record {
       fits-A = rw (o .as-long) (t .fits-A);
       fits-B = t .fits-B;
@@ -29,11 +29,11 @@ other-run v w f A B apart t =
 
 module _ (v w : Window) where
   same-act : (a : Act) (s : Session) (A B : List ℕ) → Twins v A w B → Same v w (acted a v s A) (acted a w s B)
-  same-act (run code budget) s A B t = same-call code v w s budget A B t
+  same-act (run code budget) s A B t = same-call _ w s budget A B t
   same-act (answer code value) s A B t = (refl, t)
 
   -- on the second side
-  other-B : (f : Foreign) (A B : List ℕ) → ShareNoByte w (f .window) → Twins v A w B → Twins v A w (afterOther f B)
+  other-B : (f : Foreign) (A B : List ℕ) → ShareNoByte w (f .ground .window) → Twins v A w B → Twins v A w (afterOther f B)
   other-B f A B apart t = turned w (afterOther f B) v A (other-run w v f B A apart (turned v A w B t))
 
   -- what is to be shown of two histories

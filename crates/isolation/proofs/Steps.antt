@@ -24,9 +24,10 @@ use Rattle.effect.specs.declared.Effect.{Effect}
 use Rattle.effect.specs.Effect.{effectOf}
 use Rattle.apply.specs.declared.Access.{Access}
 use Rattle.cpu.specs.declared.Fetched.{Fetched}
+use Rattle.apply.specs.Machine.{Ground, State, withWindow, withArena}
 use Rattle.apply.specs.Apply.{accessOf, loadOf, storeOf, applyOf}
 use Rattle.cpu.specs.Step.{fetchOf, stepDecoded, stepFetched, stepOf}
-use Rattle.isolation.proofs.Twins.{Twins, Same}
+use Rattle.isolation.proofs.Twins.{Twins, SameStep}
 
 module _ (v w : Window) (same : v .len ≡ w .len) where
   -- an access in two windows of one length: denied alike, or let through to the same place in each
@@ -90,32 +91,34 @@ module _ (v w : Window) where
           let s = t .lengths in
           rw (x, y) (put-ext (bytesOf k) (v .start .0 + d) (w .start .0 + d) value A B (omega arith) (omega arith) (i - d) (omega arith))
 
-  module _ (gr : List ℕ) (pc : GuestAddr) (A B : List ℕ) (t : Twins v A w B) where
-    of-effect : (e : Effect) → Same v w (applyOf v e gr pc A) (applyOf w e gr pc B)
+  module _ (s : State) (B : List ℕ) (t : Twins v (s .arena) w B) where
+    of-effect : (e : Effect) → SameStep v w (applyOf v e s) (applyOf w e (withArena B s))
     unfolding applyOf
-    of-effect (Effect.Write rd value to) = (refl, t)
-    of-effect (Effect.Jump to) = (refl, t)
+    of-effect (Effect.Write rd value to) = (B, refl, t)
+    of-effect (Effect.Jump to) = (B, refl, t)
     of-effect (Effect.Load kind rd a) = load (both v w (t .lengths) a (loadWidthOf kind))
       where
         load : Both v w (t .lengths) a (loadWidthOf kind)
-            → Same v w (loadOf (accessOf v a (loadWidthOf kind)) kind rd gr pc A) (loadOf (accessOf w a (loadWidthOf kind)) kind rd gr pc B)
-        load (denied f p q) = rw (p, q) (refl, t)
-        load (reached d h p q) = rw (p, q) (rw (loads A B t kind d h) refl, t)
+            → SameStep v w (loadOf (accessOf v a (loadWidthOf kind)) kind rd s) (loadOf (accessOf w a (loadWidthOf kind)) kind rd (withArena B s))
+        load (denied f p q) = rw (p, q) (B, refl, t)
+        load (reached d h p q) = rw (p, q) (B, rw (loads (s .arena) B t kind d h) refl, t)
     of-effect (Effect.Store k value a) = store (both v w (t .lengths) a k)
       where
-        store : Both v w (t .lengths) a k → Same v w (storeOf (accessOf v a k) k value gr pc A) (storeOf (accessOf w a k) k value gr pc B)
-        store (denied f p q) = rw (p, q) (refl, t)
-        store (reached d h p q) = rw (p, q) (refl, stores A B t k value d h)
-    of-effect (Effect.Raise f) = (refl, t)
+        store : Both v w (t .lengths) a k → SameStep v w (storeOf (accessOf v a k) k value s) (storeOf (accessOf w a k) k value (withArena B s))
+        store (denied f p q) = rw (p, q) (B, refl, t)
+        store (reached d h p q) = rw (p, q) (_, refl, stores (s .arena) B t k value d h)
+    of-effect (Effect.Raise f) = (B, refl, t)
 
-    of-decoded : (d : Decoded) (word : ℕ) → Same v w (stepDecoded d word v gr pc A) (stepDecoded d word w gr pc B)
-    of-decoded (Decoded.Known i) word = of-effect (effectOf i gr pc)
-    of-decoded Decoded.Unknown word = (refl, t)
+-- the second side: the same ground and the same state, but for the window and the arena
+module _ (g : Ground) (w : Window) (s : State) (B : List ℕ) (t : Twins (g .window) (s .arena) w B) where
+  of-decoded : (d : Decoded) (word : ℕ) → SameStep (g .window) w (stepDecoded d word g s) (stepDecoded d word (withWindow w g) (withArena B s))
+  of-decoded (Decoded.Known i) word = of-effect (g .window) w s B t (effectOf i (s .regs) (s .pc))
+  of-decoded Decoded.Unknown word = (B, refl, t)
 
-    of-fetched : (x : Fetched) → Same v w (stepFetched x v gr pc A) (stepFetched x w gr pc B)
-    of-fetched (Fetched.Word word) = of-decoded (decodeOf word) word
-    of-fetched Fetched.Bad = (refl, t)
+  of-fetched : (x : Fetched) → SameStep (g .window) w (stepFetched x g s) (stepFetched x (withWindow w g) (withArena B s))
+  of-fetched (Fetched.Word word) = of-decoded (decodeOf word) word
+  of-fetched Fetched.Bad = (B, refl, t)
 
-    pub same-step : (code : List ℕ) → Same v w (stepOf code v gr pc A) (stepOf code w gr pc B)
-    unfolding stepOf
-    same-step code = of-fetched (fetchOf code pc)
+  pub same-step : SameStep (g .window) w (stepOf g s) (stepOf (withWindow w g) (withArena B s))
+  unfolding stepOf
+  same-step = of-fetched (fetchOf (g .code) (s .pc))

@@ -6,6 +6,9 @@ use native.Mathlib.Omega.{arith}
 use lib.ListN.{length, getD, drop, length-drop}
 use lib.Seq.{length-take-le, getD-take, getD-drop, ext-getD}
 use Rattle.place.specs.declared.Window.{Window}
+use Rattle.apply.specs.Machine.{Ended, withArena}
+use Rattle.session.specs.declared.Reply.{Reply}
+use Rattle.running.specs.Run.{Went}
 use Rattle.isolation.specs.Windows.{Fits, bytesIn, SameWindow}
 
 pub record Twins (v : Window) (A : List ℕ) (w : Window) (B : List ℕ) : Type 0 where
@@ -14,8 +17,15 @@ pub record Twins (v : Window) (A : List ℕ) (w : Window) (B : List ℕ) : Type 
   pub lengths : v .len ≡ w .len
   pub byte : (k : ℕ) → k < v .len → getD A (v .start .0 + k) 0 ≡ getD B (w .start .0 + k) 0
 
+-- the second is the first with another arena, whose window is equal
+abbrev pub SameStep : Window → Window → Ended → Ended → Type 0
+SameStep v w x y = (B : List ℕ) × (y ≡ record { end = x .end; state = withArena B (x .state) }) × Twins v (x .state .arena) w B
+
+abbrev pub SameRun : Window → Window → Went → Went → Type 0
+SameRun v w x y = (B : List ℕ) × (y ≡ record { stop = x .stop; steps = x .steps; state = withArena B (x .state) }) × Twins v (x .state .arena) w B
+
 -- what is done in the two arenas comes to the same, and the windows are equal after it
-abbrev pub Same : {R : Type 0} → Window → Window → R × List ℕ → R × List ℕ → Type 0
+abbrev pub Same : Window → Window → Reply × List ℕ → Reply × List ℕ → Type 0
 Same v w x y = (x .0 ≡ y .0) × Twins v (x .1) w (y .1)
 
 -- a byte of the window is the arena's

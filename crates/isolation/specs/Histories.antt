@@ -5,6 +5,7 @@ use mathlib.Core.Path.{_≡_}
 use mathlib.Core.List.{List, [], _∷_}
 use Rattle.place.specs.declared.Window.{Window}
 use Rattle.place.specs.Place.{Inside}
+use Rattle.apply.specs.Machine.{Ground, ground}
 use Rattle.session.specs.declared.Session.{Session}
 use Rattle.session.specs.declared.Reply.{Reply}
 use Rattle.running.specs.Call.{hostRunOf}
@@ -18,8 +19,7 @@ pub data Act : Type 0 where
 
 -- a run of another session, in a window of its own
 pub record Foreign : Type 0 where
-  pub code : List ℕ
-  pub window : Window
+  pub ground : Ground
   pub session : Session
   pub budget : ℕ
 
@@ -30,12 +30,12 @@ pub data Event : Type 0 where
 
 -- Both kinds of act may be refused: they are the host's calls.
 abbrev pub acted : Act → Window → Session → List ℕ → Reply × List ℕ
-acted (run code budget) w s arena = hostRunOf code w s budget arena
+acted (run code budget) w s arena = hostRunOf (ground code w) s budget arena
 acted (answer code value) w s arena = (hostAnswerOf code s value, arena)
 
 -- the arena after another session's run
 abbrev pub afterOther : Foreign → List ℕ → List ℕ
-afterOther f arena = hostRunOf (f .code) (f .window) (f .session) (f .budget) arena .1
+afterOther f arena = hostRunOf (f .ground) (f .session) (f .budget) arena .1
 
 -- an entry for each own act; the session is the one that the act before it left
 unfoldable pub entries : Window → List Event → Session → List ℕ → List Entry
@@ -59,7 +59,7 @@ ShareNoByte v w = (i : ℕ) → Inside v i → Inside w i → ⊥
 unfoldable pub OthersApart : Window → List Event → Type 0
 OthersApart w [] = Unit {0}
 OthersApart w (own a ∷ h) = OthersApart w h
-OthersApart w (other f ∷ h) = ShareNoByte w (f .window) × OthersApart w h
+OthersApart w (other f ∷ h) = ShareNoByte w (f .ground .window) × OthersApart w h
 
 -- entry by entry, to the end of both
 unfoldable pub AllAlike : Window → Window → List Entry → List Entry → Type 0

@@ -3,6 +3,7 @@
 use Prim.Native.Nat.{ℕ}
 use mathlib.Core.List.{List}
 use Rattle.place.specs.declared.Window.{Window}
+use Rattle.apply.specs.Machine.{Ground, withWindow}
 use Rattle.session.specs.declared.Session.{Session}
 use Rattle.session.specs.declared.Reply.{Reply}
 use Rattle.running.specs.Run.{ranOf}
@@ -13,10 +14,11 @@ use Rattle.isolation.specs.Windows.{SameWindow, entry, Alike}
 abbrev pub Isolated : (Window → List ℕ → Reply × List ℕ) → Type 0
 Isolated act = (v : Window) (A : List ℕ) (w : Window) (B : List ℕ) → SameWindow v A w B → Alike v w (entry A (act v A)) (entry B (act w B))
 
--- the manual's run, over the whole arena
+-- The manual's run, over the whole arena. `withWindow w g` replaces the ground's own window by w: the two runs stand on the same but for their
+-- windows, and the window that g itself has plays no part.
 abbrev pub RunIsolated : Type 0
-RunIsolated = (code : List ℕ) (s : Session) (budget : ℕ) → Isolated (λ w arena. ranOf code w s budget arena)
+RunIsolated = (g : Ground) (s : Session) (budget : ℕ) → Isolated (λ w arena. ranOf (withWindow w g) s budget arena)
 
 -- the host's call, which may be refused
 abbrev pub CallIsolated : Type 0
-CallIsolated = (code : List ℕ) (s : Session) (budget : ℕ) → Isolated (λ w arena. hostRunOf code w s budget arena)
+CallIsolated = (g : Ground) (s : Session) (budget : ℕ) → Isolated (λ w arena. hostRunOf (withWindow w g) s budget arena)

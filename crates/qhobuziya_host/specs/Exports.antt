@@ -3,7 +3,7 @@
 use Prim.Native.Nat.{ℕ}
 use mathlib.Core.Path.{_≡_}
 use mathlib.Core.List.{List}
-use Rattle.place.specs.declared.Window.{Window}
+use Rattle.apply.specs.Machine.{Ground, ground}
 use Rattle.running.specs.Call.{hostRunOf}
 use Rattle.service.specs.Answer.{hostAnswerOf}
 use Rattle.file.specs.Writing.{hostWriteOf}
@@ -14,14 +14,14 @@ use Rattle.records.specs.declared.WrittenRecord.{WrittenRecord}
 use Rattle.records.specs.declared.ReadingRecord.{ReadingRecord}
 use Rattle.records.specs.Records.{sessionOf, replyOf, writtenOf, readingOf}
 
--- "A window is an arena offset and a length"
-abbrev pub windowOf : ℕ → ℕ → Window
-windowOf offset len = record { start = record { 0 = offset }; len = len }
+-- What the run stands on, from the call's own arguments. "A window is an arena offset and a length"
+abbrev pub groundOf : List ℕ → ℕ → ℕ → Ground
+groundOf code offset len = ground code (record { start = record { 0 = offset }; len = len })
 
 -- of its inputs, its reply r and the arena afterwards
 pub record RunsRecord (code : List ℕ) (offset : ℕ) (len : ℕ) (came : SessionRecord) (budget : ℕ) (arena : List ℕ) (r : ReplyRecord) (after : List ℕ) : Type 0 where
-  pub reply : r ≡ replyOf came (hostRunOf code (windowOf offset len) (sessionOf came) budget arena .0)
-  pub bytes : after ≡ hostRunOf code (windowOf offset len) (sessionOf came) budget arena .1
+  pub reply : r ≡ replyOf came (hostRunOf (groundOf code offset len) (sessionOf came) budget arena .0)
+  pub bytes : after ≡ hostRunOf (groundOf code offset len) (sessionOf came) budget arena .1
 
 pub record AnswersRecord (code : List ℕ) (came : SessionRecord) (value : ℕ) (r : ReplyRecord) : Type 0 where
   pub reply : r ≡ replyOf came (hostAnswerOf code (sessionOf came) value)

@@ -3,7 +3,7 @@
 use Prim.Native.Nat.{ℕ}
 use mathlib.Core.Path.{_≡_}
 use mathlib.Core.List.{List}
-use Rattle.place.specs.declared.Window.{Window}
+use Rattle.apply.specs.Machine.{Ground}
 use Rattle.session.specs.declared.Session.{Session}
 use Rattle.session.specs.declared.Stop.{Stop}
 use Rattle.session.specs.declared.Refusal.{Refusal}
@@ -21,11 +21,11 @@ pub record Unmoved (s : Session) (arena : List ℕ) (r : Reply × List ℕ) : Ty
 -- demand 1: "A refusal says why by number and leaves session, arena and buffer exactly as they came."
 abbrev pub RefusedChangesNothing : Type 0
 RefusedChangesNothing =
-    (code : List ℕ) (w : Window) (s : Session) (budget : ℕ) (arena : List ℕ) (why : Refusal)
-    → hostRunOf code w s budget arena .0 .outcome ≡ Outcome.Refused why → Unmoved s arena (hostRunOf code w s budget arena)
+    (g : Ground) (s : Session) (budget : ℕ) (arena : List ℕ) (why : Refusal)
+    → hostRunOf g s budget arena .0 .outcome ≡ Outcome.Refused why → Unmoved s arena (hostRunOf g s budget arena)
 
 -- "Budget 0 stops as spent, without a fetch": whatever the code and the pc are
 abbrev pub NoBudgetNoStep : Type 0
 NoBudgetNoStep =
-    (code : List ℕ) (w : Window) (s : Session) (arena : List ℕ)
-    → (ranOf code w s 0 arena .0 .outcome ≡ Outcome.Stopped Stop.Spent) × Unmoved s arena (ranOf code w s 0 arena)
+    (g : Ground) (s : Session) (arena : List ℕ)
+    → (ranOf g s 0 arena .0 .outcome ≡ Outcome.Stopped Stop.Spent) × Unmoved s arena (ranOf g s 0 arena)

@@ -19,6 +19,7 @@ use Rattle.opcode.specs.Decode.{decodeOf}
 use Rattle.registers.specs.Registers.{reg, written}
 use Rattle.memory.specs.Memory.{loadedOf}
 use Rattle.effect.specs.Effect.{effectOf}
+use Rattle.apply.specs.Machine.{ground}
 use Rattle.apply.specs.Apply.{accessOf, applyOf}
 use Rattle.cpu.specs.Step.{fetchOf, stepOf}
 use Rattle.fault.specs.Fault.{toldOf}
@@ -63,7 +64,7 @@ pub record Case : Type 0 where
 abbrev call : Case → Seen
 call c =
     seen
-    (hostRunOf (bytesLE 4 (c .word)) (record { start = record { 0 = 7 }; len = c .len }) (session (c .given) 0x10000 0) (c .budget) arena)
+    (hostRunOf (ground (bytesLE 4 (c .word)) (record { start = record { 0 = 7 }; len = c .len })) (session (c .given) 0x10000 0) (c .budget) arena)
 
 -- word, registers given, window length, budget; Ecode, subcode, carried; count, registers and pc afterwards. No case stores.
 abbrev case : ℕ → List Value → ℕ → ℕ → ℕ → ℕ → ℕ → ℕ → List Value → ℕ → Case

@@ -31,7 +31,7 @@ use Rattle.effect.specs.Effect.{effectOf}
 use Rattle.apply.specs.declared.Access.{Access}
 use Rattle.apply.specs.declared.End.{End}
 use Rattle.cpu.specs.declared.Fetched.{Fetched}
-use Rattle.apply.specs.declared.Stepped.{Stepped}
+use Rattle.apply.specs.Machine.{State, Ended}
 use Rattle.apply.specs.Apply.{accessIn, accessOf, loadOf, storeOf, applyOf}
 use Rattle.cpu.specs.Step.{fetchOf, stepOf, fetchedAt, stepDecoded, stepFetched}
 use Rattle.stepping.specs.Stepping.{InCode, AdefRaised, AdefOnly, wordAt, IneRaised, IneOnly, early, ExistingIsLate}
@@ -57,11 +57,11 @@ unfetched code pc out = go (eqb (pc .0 % 4) 0) (withinOf codeBase (length code) 
 
 pub adef-raised : AdefRaised
 unfolding stepOf
-adef-raised code w gr pc arena out = rw (unfetched code pc out) refl
+adef-raised g s out = rw (unfetched (g .code) (s .pc) out) refl
 
 pub ine-raised : IneRaised
 unfolding stepOf
-ine-raised code w gr pc arena i u = rw (fetched code pc i, u) refl
+ine-raised g s i u = rw (fetched (g .code) (s .pc) i, u) refl
 
 -- what an effect, an access and an end raise is not early
 abbrev earlyEffect : Effect → Bool
@@ -125,56 +125,61 @@ access-late w a k = go (eqb (a .0 % bytesOf k) 0) (locateOf w a k)
     go true Located.Outside = refl
     go false l = refl
 
-apply-late : (w : Window) (e : Effect) (gr : List ℕ) (pc : GuestAddr) (arena : List ℕ) → earlyEffect e ≡ false
-    → earlyEnd (applyOf w e gr pc arena .0 .end) ≡ false
+apply-late : (w : Window) (e : Effect) (s : State) → earlyEffect e ≡ false → earlyEnd (applyOf w e s .end) ≡ false
 unfolding applyOf
-apply-late w (Effect.Write rd v to) gr pc arena l = refl
-apply-late w (Effect.Jump to) gr pc arena l = refl
-apply-late w (Effect.Load kind rd a) gr pc arena l = go (accessOf w a (loadWidthOf kind)) (access-late w a (loadWidthOf kind))
+apply-late w (Effect.Write rd v to) s l = refl
+apply-late w (Effect.Jump to) s l = refl
+apply-late w (Effect.Load kind rd a) s l = go (accessOf w a (loadWidthOf kind)) (access-late w a (loadWidthOf kind))
   where
-    go : (x : Access) → earlyAccess x ≡ false → earlyEnd (loadOf x kind rd gr pc arena .0 .end) ≡ false
+    go : (x : Access) → earlyAccess x ≡ false → earlyEnd (loadOf x kind rd s .end) ≡ false
     go (Access.At o) h = refl
     go (Access.Denied f) h = h
-apply-late w (Effect.Store k v a) gr pc arena l = go (accessOf w a k) (access-late w a k)
+apply-late w (Effect.Store k v a) s l = go (accessOf w a k) (access-late w a k)
   where
-    go : (x : Access) → earlyAccess x ≡ false → earlyEnd (storeOf x k v gr pc arena .0 .end) ≡ false
+    go : (x : Access) → earlyAccess x ≡ false → earlyEnd (storeOf x k v s .end) ≡ false
     go (Access.At o) h = refl
     go (Access.Denied f) h = h
-apply-late w (Effect.Raise f) gr pc arena l = l
+apply-late w (Effect.Raise f) s l = l
 
 pub existing-is-late : ExistingIsLate
 unfolding stepOf
-existing-is-late code w gr pc arena i f h k e =
-    let q : stepOf code w gr pc arena ≡ applyOf w (effectOf i gr pc) gr pc arena = rw (stepOf, fetched code pc h, k) refl in
-    let r : applyOf w (effectOf i gr pc) gr pc arena .0 .end ≡ End.Raised f = ap (λ (s : Stepped × List ℕ). s .0 .end) (sym q) ∙ e in
-    ap earlyEnd (sym r) ∙ apply-late w (effectOf i gr pc) gr pc arena (effect-late i gr pc)
+existing-is-late g s i f h k e =
+    let x = effectOf i (s .regs) (s .pc) in
+    let q : stepOf g s ≡ applyOf (g .window) x s = rw (stepOf, fetched (g .code) (s .pc) h, k) refl in
+    let r : applyOf (g .window) x s .end ≡ End.Raised f = ap (λ (y : Ended). y .end) (sym q) ∙ e in
+    ap earlyEnd (sym r) ∙ apply-late (g .window) x s (effect-late i (s .regs) (s .pc))
 
 pub ine-only : IneOnly
-ine-only code w gr pc arena i word e = go (decodeOf (wordAt code pc)) refl
+ine-only g s i word e = go (decodeOf here) refl
   where
-    go : (d : Decoded) → decodeOf (wordAt code pc) ≡ d → (decodeOf (wordAt code pc) ≡ Decoded.Unknown) × (word ≡ wordAt code pc)
+    here : ℕ
+    here = wordAt (g .code) (s .pc)
+
+    go : (d : Decoded) → decodeOf here ≡ d → (decodeOf here ≡ Decoded.Unknown) × (word ≡ here)
     go (Decoded.Known n) k =
-        let h = existing-is-late code w gr pc arena n (Fault.Ine word) i k e in
+        let h = existing-is-late g s n (Fault.Ine word) i k e in
         let z : _≡_ {A = ℕ} 0 1 = cc in
         absurd (omega arith)
     go Decoded.Unknown k =
-        let q : End.Raised (Fault.Ine (wordAt code pc)) ≡ End.Raised (Fault.Ine word) = sym (ine-raised code w gr pc arena i k) ∙ e in
-        let h : word ≡ wordAt code pc = cc in
+        let q : End.Raised (Fault.Ine here) ≡ End.Raised (Fault.Ine word) = sym (ine-raised g s i k) ∙ e in
+        let h : word ≡ here = cc in
         (k, h)
 
 pub adef-only : AdefOnly
 unfolding stepOf
-adef-only code w gr pc arena a e = go (fetchOf code pc) refl e
+adef-only g s a e = go (fetchOf (g .code) (s .pc)) refl e
   where
-    done-late : (word : ℕ) (d : Decoded) → stepDecoded d word w gr pc arena .0 .end ≡ End.Raised (Fault.Adef a) → ⊥
+    done-late : (word : ℕ) (d : Decoded) → stepDecoded d word g s .end ≡ End.Raised (Fault.Adef a) → ⊥
     done-late word (Decoded.Known i) q =
-        let h : earlyEnd (End.Raised (Fault.Adef a)) ≡ false = ap earlyEnd (sym q) ∙ apply-late w (effectOf i gr pc) gr pc arena (effect-late i gr pc) in
+        let l = apply-late (g .window) (effectOf i (s .regs) (s .pc)) s (effect-late i (s .regs) (s .pc)) in
+        let h : earlyEnd (End.Raised (Fault.Adef a)) ≡ false = ap earlyEnd (sym q) ∙ l in
         let z : _≡_ {A = ℕ} 0 1 = cc in
         absurd (omega arith)
     done-late word Decoded.Unknown q = let z : _≡_ {A = ℕ} 0 1 = cc in absurd (omega arith)
 
-    go : (x : Fetched) → fetchOf code pc ≡ x → stepFetched x w gr pc arena .0 .end ≡ End.Raised (Fault.Adef a) → (InCode code pc → ⊥) × (a ≡ pc)
+    go : (x : Fetched) → fetchOf (g .code) (s .pc) ≡ x → stepFetched x g s .end ≡ End.Raised (Fault.Adef a)
+        → (InCode (g .code) (s .pc) → ⊥) × (a ≡ s .pc)
     go (Fetched.Word word) p q = absurd (done-late word (decodeOf word) q)
     go Fetched.Bad p q =
-        let h : a ≡ pc = cc in
-        ((λ (i : InCode code pc). let f = fetched code pc i in let z : _≡_ {A = ℕ} 0 1 = cc in absurd (omega arith)), h)
+        let h : a ≡ s .pc = cc in
+        ((λ (i : InCode (g .code) (s .pc)). let f = fetched (g .code) (s .pc) i in let z : _≡_ {A = ℕ} 0 1 = cc in absurd (omega arith)), h)

@@ -16,37 +16,30 @@ use Rattle.bytes.proofs.Numbers.{length-put, put-below, put-above}
 use Rattle.registers.specs.Registers.{reg}
 use Rattle.registers.proofs.Zero.{zero-kept}
 use Rattle.memory.specs.Memory.{storedOf}
-use Rattle.apply.specs.declared.Stepped.{Stepped}
+use Rattle.apply.specs.Machine.{Ended}
 use Rattle.cpu.proofs.Cases.{of-step}
 use Rattle.cpu.proofs.Raising.{raise-unchanged}
 use Rattle.stepping.specs.Stepping.{RaisingChangesNothing, ZeroStays, LengthStays, OutsideStays}
 
 pub raising-changes-nothing : RaisingChangesNothing
-raising-changes-nothing code w gr pc arena f e =
-    let u = raise-unchanged code w gr pc arena f e in (
-      ap (λ (s : Stepped × List ℕ). s .0 .regs) u,
-      ap (λ (s : Stepped × List ℕ). s .0 .pc) u,
-      ap (λ (s : Stepped × List ℕ). s .1) u,
-    )
+raising-changes-nothing g s f e = ap (λ (x : Ended). x .state) (raise-unchanged g s f e)
 
 pub zero-stays : ZeroStays
-zero-stays code w gr pc arena z =
-    of-step (λ (s : Stepped × List ℕ). reg (s .0 .regs) 0 ≡ 0) w gr pc arena
+zero-stays g s z =
+    of-step (λ (x : Ended). reg (x .state .regs) 0 ≡ 0) g s
     (λ f. z)
-    (λ rd v to. zero-kept gr rd v ∙ z)
+    (λ rd v to. zero-kept (s .regs) rd v ∙ z)
     (λ to. z)
     (λ k o v i j. z)
-    code
 
 pub length-stays : LengthStays
 unfolding storedOf
-length-stays code w gr pc arena =
-    of-step (λ (s : Stepped × List ℕ). length (s .1) ≡ length arena) w gr pc arena
+length-stays g s =
+    of-step (λ (x : Ended). length (x .state .arena) ≡ length (s .arena)) g s
     (λ f. refl)
     (λ rd v to. refl)
     (λ to. refl)
-    (λ k o v i j. length-put (bytesOf k) (o .0) v arena)
-    code
+    (λ k o v i j. length-put (bytesOf k) (o .0) v (s .arena))
 
 -- a store in the window changes no byte outside
 stored-outside : (w : Window) (k : Width) (o : ArenaOffset) (v : ℕ) (arena : List ℕ)
@@ -59,10 +52,9 @@ stored-outside w k o v arena i j n out = go (beside w n out)
     go (inr l) = put-above (bytesOf k) (o .0) v arena n (omega arith)
 
 pub outside-stays : OutsideStays
-outside-stays code w gr pc arena =
-    of-step (λ (s : Stepped × List ℕ). (n : ℕ) → (Inside w n → ⊥) → getD (s .1) n 0 ≡ getD arena n 0) w gr pc arena
+outside-stays g s =
+    of-step (λ (x : Ended). (n : ℕ) → (Inside (g .window) n → ⊥) → getD (x .state .arena) n 0 ≡ getD (s .arena) n 0) g s
     (λ f n out. refl)
     (λ rd v to n out. refl)
     (λ to n out. refl)
-    (λ k o v i j. stored-outside w k o v arena i j)
-    code
+    (λ k o v i j. stored-outside (g .window) k o v (s .arena) i j)

@@ -15,8 +15,7 @@ use Rattle.fault.specs.declared.Fault.{Fault}
 use Rattle.fault.specs.declared.Fault.the-variants.{Adem, Ale, Bce, Syscall, Break, Ine}
 use Rattle.memory.specs.Memory.{loadedOf, storedOf}
 use Rattle.effect.specs.Effect.{effectOf}
-use Rattle.apply.specs.declared.End.{End}
-use Rattle.apply.specs.declared.Stepped.{Stepped}
+use Rattle.apply.specs.Machine.{State, Ended, ground, state, done, raised}
 use Rattle.apply.specs.Apply.{accessOf, applyOf}
 use Rattle.cpu.specs.Step.{fetchOf, stepOf}
 
@@ -27,30 +26,26 @@ arena = 0xe0 ∷ 0xe1 ∷ 0xe2 ∷ 0 ∷ 1 ∷ 2 ∷ 3 ∷ 4 ∷ 5 ∷ 6 ∷ 7 �
 abbrev registers : ℕ → ℕ → List ℕ
 registers r5 r6 = set (set (replicate 32 0) 5 r5) 6 r6
 
+-- before the step at 0x10000
+abbrev before : ℕ → ℕ → State
+before r5 r6 = state (registers r5 r6) (record { 0 = 0x10000 }) arena
+
 pub record Case : Type 0 where
   pub word : ℕ
   pub r5 : ℕ
   pub r6 : ℕ
-  pub out : Stepped × List ℕ
+  pub out : Ended
 
--- the step at 0x10000
-abbrev run : Case → Stepped × List ℕ
-run c = stepOf (bytesLE 4 (c .word)) (record { start = record { 0 = 3 }; len = 16 }) (registers (c .r5) (c .r6)) (record { 0 = 0x10000 }) arena
+abbrev run : Case → Ended
+run c = stepOf (ground (bytesLE 4 (c .word)) (record { start = record { 0 = 3 }; len = 16 })) (before (c .r5) (c .r6))
 
 -- the fault, and all as it was
 abbrev raises : ℕ → ℕ → ℕ → Fault → Case
-raises word r5 r6 f =
-    record {
-      word = word;
-      r5 = r5;
-      r6 = r6;
-      out = (record { end = End.Raised f; regs = registers r5 r6; pc = record { 0 = 0x10000 } }, arena);
-    }
+raises word r5 r6 f = record { word = word; r5 = r5; r6 = r6; out = raised f (before r5 r6) }
 
 -- the registers, the pc and the arena afterwards
 abbrev ends : ℕ → ℕ → ℕ → List ℕ → ℕ → List ℕ → Case
-ends word r5 r6 gr pc after =
-    record { word = word; r5 = r5; r6 = r6; out = (record { end = End.Done; regs = gr; pc = record { 0 = pc } }, after) }
+ends word r5 r6 gr pc after = record { word = word; r5 = r5; r6 = r6; out = done (state gr (record { 0 = pc }) after) }
 
 abbrev goes : ℕ → ℕ → ℕ → ℕ → Case
 goes word r5 r6 pc = ends word r5 r6 (registers r5 r6) pc arena

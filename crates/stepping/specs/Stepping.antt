@@ -5,7 +5,6 @@ use mathlib.Core.Bool.{Bool, true, false}
 use mathlib.Core.List.{List}
 use lib.ListN.{length, getD}
 use Rattle.place.specs.declared.GuestAddr.{GuestAddr}
-use Rattle.place.specs.declared.Window.{Window}
 use Rattle.place.specs.Place.{Inside, codeBase}
 use Rattle.bytes.specs.Bytes.{getLE}
 use Rattle.isa.specs.declared.Decoded.{Decoded}
@@ -15,29 +14,28 @@ use Rattle.registers.specs.Registers.{reg}
 use Rattle.fault.specs.declared.Fault.{Fault}
 use Rattle.fault.specs.declared.Fault.the-variants.{Adef, Adem, Ale, Bce, Syscall, Break, Ine}
 use Rattle.apply.specs.declared.End.{End}
-use Rattle.apply.specs.declared.Stepped.{Stepped}
+use Rattle.apply.specs.Machine.{Ground, State, Ended}
 use Rattle.cpu.specs.Step.{stepOf}
 
--- a property of a step: of its code, window, registers, pc, arena, and of what it leaves
-abbrev pub EveryStep : (List ℕ → Window → List ℕ → GuestAddr → List ℕ → Stepped × List ℕ → Type 0) → Type 0
-EveryStep P = (code : List ℕ) (w : Window) (gr : List ℕ) (pc : GuestAddr) (arena : List ℕ) → P code w gr pc arena (stepOf code w gr pc arena)
+-- a property of a step: of what it stands on, of what it starts from, and of what it leaves
+abbrev pub EveryStep : (Ground → State → Ended → Type 0) → Type 0
+EveryStep P = (g : Ground) (s : State) → P g s (stepOf g s)
 
 -- "A raising instruction changes nothing, pc included"
 abbrev pub RaisingChangesNothing : Type 0
-RaisingChangesNothing =
-    EveryStep (λ code w gr pc arena s. (f : Fault) → s .0 .end ≡ End.Raised f → (s .0 .regs ≡ gr) × (s .0 .pc ≡ pc) × (s .1 ≡ arena))
+RaisingChangesNothing = EveryStep (λ g s e. (f : Fault) → e .end ≡ End.Raised f → e .state ≡ s)
 
 -- "Register 0 is always zero"
 abbrev pub ZeroStays : Type 0
-ZeroStays = EveryStep (λ code w gr pc arena s. reg gr 0 ≡ 0 → reg (s .0 .regs) 0 ≡ 0)
+ZeroStays = EveryStep (λ g s e. reg (s .regs) 0 ≡ 0 → reg (e .state .regs) 0 ≡ 0)
 
 -- the arena's length is kept
 abbrev pub LengthStays : Type 0
-LengthStays = EveryStep (λ code w gr pc arena s. length (s .1) ≡ length arena)
+LengthStays = EveryStep (λ g s e. length (e .state .arena) ≡ length (s .arena))
 
 -- no byte outside the window changes
 abbrev pub OutsideStays : Type 0
-OutsideStays = EveryStep (λ code w gr pc arena s. (i : ℕ) → (Inside w i → ⊥) → getD (s .1) i 0 ≡ getD arena i 0)
+OutsideStays = EveryStep (λ g s e. (i : ℕ) → (Inside (g .window) i → ⊥) → getD (e .state .arena) i 0 ≡ getD (s .arena) i 0)
 
 -- the pc is a multiple of 4 inside code
 abbrev pub InCode : List ℕ → GuestAddr → Type 0
@@ -49,24 +47,24 @@ wordAt code pc = getLE 4 (pc .0 - codeBase) code
 
 -- ADEF everywhere else: it carries the pc
 abbrev pub AdefRaised : Type 0
-AdefRaised = EveryStep (λ code w gr pc arena s. (InCode code pc → ⊥) → s .0 .end ≡ End.Raised (Adef pc))
+AdefRaised = EveryStep (λ g s e. (InCode (g .code) (s .pc) → ⊥) → e .end ≡ End.Raised (Adef (s .pc)))
 
 -- and ADEF nowhere inside code
 abbrev pub AdefOnly : Type 0
-AdefOnly = EveryStep (λ code w gr pc arena s. (a : GuestAddr) → s .0 .end ≡ End.Raised (Adef a) → (InCode code pc → ⊥) × (a ≡ pc))
+AdefOnly = EveryStep (λ g s e. (a : GuestAddr) → e .end ≡ End.Raised (Adef a) → (InCode (g .code) (s .pc) → ⊥) × (a ≡ s .pc))
 
 -- INE where decoding says that there is no such instruction: it carries the word there
 abbrev pub IneRaised : Type 0
 IneRaised =
     EveryStep
-    (λ code w gr pc arena s. InCode code pc → decodeOf (wordAt code pc) ≡ Decoded.Unknown → s .0 .end ≡ End.Raised (Ine (wordAt code pc)))
+    (λ g s e. InCode (g .code) (s .pc) → decodeOf (wordAt (g .code) (s .pc)) ≡ Decoded.Unknown → e .end ≡ End.Raised (Ine (wordAt (g .code) (s .pc))))
 
 -- and INE nowhere else inside code
 abbrev pub IneOnly : Type 0
 IneOnly =
     EveryStep
-    (λ code w gr pc arena s. InCode code pc → (x : ℕ) → s .0 .end ≡ End.Raised (Ine x)
-    → (decodeOf (wordAt code pc) ≡ Decoded.Unknown) × (x ≡ wordAt code pc))
+    (λ g s e. InCode (g .code) (s .pc) → (x : ℕ) → e .end ≡ End.Raised (Ine x)
+    → (decodeOf (wordAt (g .code) (s .pc)) ≡ Decoded.Unknown) × (x ≡ wordAt (g .code) (s .pc)))
 
 -- what is raised before an instruction executes
 abbrev pub early : Fault → Bool
@@ -82,5 +80,5 @@ early (Break code) = false
 abbrev pub ExistingIsLate : Type 0
 ExistingIsLate =
     EveryStep
-    (λ code w gr pc arena s. (i : Instruction) (f : Fault) → InCode code pc → decodeOf (wordAt code pc) ≡ Decoded.Known i
-    → s .0 .end ≡ End.Raised f → early f ≡ false)
+    (λ g s e. (i : Instruction) (f : Fault) → InCode (g .code) (s .pc) → decodeOf (wordAt (g .code) (s .pc)) ≡ Decoded.Known i
+    → e .end ≡ End.Raised f → early f ≡ false)

@@ -7,7 +7,7 @@ use Rattle.file.specs.Writing.{hostWriteOf}
 use Rattle.file.specs.Reading.{hostReadOf}
 use Rattle.records.specs.Records.{sessionOf, replyOf, writtenOf, readingOf}
 use Rattle.numbered.specs.Numbered.{numberedOf}
-use Rattle.qhobuziya_host.specs.Exports.{windowOf}
+use Rattle.qhobuziya_host.specs.Exports.{groundOf}
 use Rattle.unique.specs.Unique.{AtMostOne, RunUnique, AnswerUnique, DecodeUnique, WriteUnique, ReadUnique, RunRecordUnique, AnswerRecordUnique, DecodeRecordUnique, WriteRecordUnique, ReadRecordUnique}
 
 -- what a promise says to be the definition's answer is one answer
@@ -15,7 +15,7 @@ determined : {A : Type 0} {P : A → Type 0} (d : A) → ((x : A) → P x → x 
 determined d same x y p q = same x p ∙ sym (same y q)
 
 pub run-unique : RunUnique
-run-unique code w s budget arena = determined (hostRunOf code w s budget arena) (λ x p. rw (← p .reply, ← p .bytes) refl)
+run-unique g s budget arena = determined (hostRunOf g s budget arena) (λ x p. rw (← p .reply, ← p .bytes) refl)
 
 pub answer-unique : AnswerUnique
 answer-unique code s value = determined (hostAnswerOf code s value) (λ r p. p .reply)
@@ -31,7 +31,7 @@ read-unique f = determined (hostReadOf f) (λ r p. p .reply)
 
 pub run-record-unique : RunRecordUnique
 run-record-unique code offset len came budget arena =
-    let ran = hostRunOf code (windowOf offset len) (sessionOf came) budget arena in
+    let ran = hostRunOf (groundOf code offset len) (sessionOf came) budget arena in
     determined (replyOf came (ran .0), ran .1) (λ x p. rw (← p .reply, ← p .bytes) refl)
 
 pub answer-record-unique : AnswerRecordUnique

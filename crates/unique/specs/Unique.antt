@@ -4,7 +4,7 @@
 use Prim.Native.Nat.{ℕ}
 use mathlib.Core.Path.{_≡_}
 use mathlib.Core.List.{List}
-use Rattle.place.specs.declared.Window.{Window}
+use Rattle.apply.specs.Machine.{Ground}
 use Rattle.isa.specs.declared.Decoded.{Decoded}
 use Rattle.opcode.specs.Decode.{Decodes}
 use Rattle.session.specs.declared.Session.{Session}
@@ -29,8 +29,8 @@ AtMostOne {A} P = (x y : A) → P x → P y → x ≡ y
 -- run: the reply and the arena afterwards
 abbrev pub RunUnique : Type 0
 RunUnique =
-    (code : List ℕ) (w : Window) (s : Session) (budget : ℕ) (arena : List ℕ)
-    → AtMostOne (λ (x : Reply × List ℕ). Runs code w s budget arena (x .0) (x .1))
+    (g : Ground) (s : Session) (budget : ℕ) (arena : List ℕ)
+    → AtMostOne (λ (x : Reply × List ℕ). Runs g s budget arena (x .0) (x .1))
 
 -- answer
 abbrev pub AnswerUnique : Type 0

@@ -3,9 +3,8 @@ use mathlib.Core.Path.{_≡_, refl, _∙_}
 use Prim.Native.Nat.{_-_, _≤_}
 use native.Mathlib.Omega.{arith}
 use lib.ListN.{length}
-use denote.Ref.{now}
 use borrow.Author.Needs.{needs}
-use Rattle.cpu.specs.Step.{stepOf}
+use Rattle.apply.specs.Machine.{ground, state}
 use Rattle.cpu.proofs.Turns.{goes-on, stops}
 use Rattle.running.specs.Run.{counted, runOf}
 use Rattle.running.proofs.Turning.{goes, ends, spends, begins, replies}
@@ -14,7 +13,8 @@ use Rattle.host.proofs.loop_on.Tie as tie
 
 abbrev Inv-loop : tie.InvT-loop
 Inv-loop code arena₀ window budget note total regs₀ pc₀ steps₀ arena regs pc steps =
-    (counted steps (runOf code window (budget - steps) regs pc arena) ≡ runOf code window budget regs₀ pc₀ arena₀)
+    let g = ground code window in
+    (counted steps (runOf g (budget - steps) (state regs pc arena)) ≡ runOf g budget (state regs₀ pc₀ arena₀))
     × (steps ≤ budget)
     × (length arena ≡ length arena₀)
 
@@ -23,25 +23,18 @@ abbrev μ-loop : tie.MeasureT-loop
 
 loop-again : tie.Need-loop-again Inv-loop μ-loop
 loop-again c =
-    let a = c .before .before .before .before .before .before .before .before .before .before .before .before .before .before .args in
     let l = c .before .before .before .before .before .before .before .before .before .loop in
-    let s = goes-on (stepOf (now (a .code)) (a .window) (l .regs) (l .pc) (l .arena)) _ _ _ _ (c .before .to .given .1) (c .before .before .before .before .before .turn .ensures) in
-    (goes (now (a .code)) (a .window) (a .budget) (l .steps) (l .regs) (l .pc) (l .arena) _ _ _ (c .before .before .before .before .before .before .before .before .loop-test .taken) s ∙ l .inv .0, omega arith, search needs)
+    let s = goes-on _ _ _ _ (c .before .to .given .1) (c .before .before .before .before .before .turn .ensures) in
+    (goes _ _ _ _ _ (c .before .before .before .before .before .before .before .before .loop-test .taken) s ∙ l .inv .0, omega arith, search needs)
 
 returns : tie.Need-returns Inv-loop μ-loop
 returns c =
-    let a = c .before .before .before .before .before .before .before .before .before .before .before .before .before .before .args in
     let l = c .before .before .before .before .before .before .before .before .before .loop in
-    let s = stops (now (a .code)) (a .window) (l .regs) (l .pc) (l .arena) _ _ _ _ (c .before .f .given .1) (c .before .before .before .before .before .turn .ensures) in
-    replies (now (a .code)) (a .window) (a .session) (a .budget) (l .steps) _ _ _ _ _
-    (ends (now (a .code)) (a .window) (a .budget) (l .steps) (l .regs) (l .pc) (l .arena) _ _ _ _ (c .before .before .before .before .before .before .before .before .loop-test .taken) s ∙ l .inv .0)
+    let s = stops _ _ _ _ _ (c .before .f .given .1) (c .before .before .before .before .before .turn .ensures) in
+    replies _ _ _ _ _ _ _ (ends _ _ _ _ _ _ (c .before .before .before .before .before .before .before .before .loop-test .taken) s ∙ l .inv .0)
 
 returns-2 : tie.Need-returns-2 Inv-loop μ-loop
-returns-2 c =
-    let a = c .before .before .before .before .before .before .args in
-    let l = c .before .loop in
-    replies (now (a .code)) (a .window) (a .session) (a .budget) (l .steps) _ _ _ _ _
-    (spends (now (a .code)) (a .window) (a .budget) (l .steps) (l .regs) (l .pc) (l .arena) (c .loop-test .left) ∙ l .inv .0)
+returns-2 c = replies _ _ _ _ _ _ _ (spends _ _ _ _ (c .loop-test .left) ∙ c .before .loop .inv .0)
 
 pub loop-on-spec : {M : Type 1} → statement M
 loop-on-spec =
@@ -49,7 +42,7 @@ loop-on-spec =
     (tie.spec
     Inv-loop
     μ-loop
-    (λ c. let a = c .before .before .before .before .args in (begins (now (a .code)) (a .window) (a .budget) (a .session .regs) (a .session .pc) (now (a .arena)), omega arith, refl))
+    (λ c. (begins _ _ _, omega arith, refl))
     (λ c κs. omega arith)
     (λ c. search needs)
     (λ c. omega arith)

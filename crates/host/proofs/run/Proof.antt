@@ -15,14 +15,12 @@ loop-on-requires c κs =
 
 returns : tie.Need-returns
 returns c =
-    let a = c .before .before .before .before .before .before .before .before .before .args in
-    by-verdict (now (a .code)) (a .window) (a .session) (a .budget) (now (a .arena)) _ _ _
+    by-verdict _ _ _ _ _ _ _
     (sym (c .before .before .before .before .before .before .of-run .ensures) ∙ c .before .before .before .before .enum-told .given .1) (c .before .before .loop-on .ensures)
 
 returns-2 : tie.Need-returns-2
 returns-2 c =
-    let a = c .before .before .before .before .before .before .args in
-    by-verdict (now (a .code)) (a .window) (a .session) (a .budget) (now (a .arena)) _ _ _
+    by-verdict _ _ _ _ _ _ _
     (sym (c .before .before .before .of-run .ensures) ∙ c .before .refusal .given .1) (refl, refl)
 
 pub run-spec : {M : Type 1} → statement M
