@@ -1,6 +1,7 @@
 -- The machine's state in two records: what a run stands on and does not change, and what a step changes; and how a step ended. No other file of
 -- definitions lists the fields. Elsewhere the records are passed on whole, a field is read by its name, and a state is changed by a setter.
 use Prim.Native.Nat.{ℕ}
+use mathlib.Core.Path.{_≡_, refl}
 use mathlib.Core.List.{List}
 use Rattle.place.specs.declared.GuestAddr.{GuestAddr}
 use Rattle.place.specs.declared.Window.{Window}
@@ -38,6 +39,16 @@ withPc pc s = state (s .regs) pc (s .arena)
 
 abbrev pub withArena : List ℕ → State → State
 withArena arena s = state (s .regs) (s .pc) arena
+
+-- Each setter sets its own field; given the value that is there, it gives the record back, so that it loses no other field.
+abbrev pub Sets : {R F : Type 0} → (R → F) → (F → R → R) → Type 0
+Sets {R} {F} field setter = (x : F) (r : R) → (field (setter x r) ≡ x) × (setter (field r) r ≡ r)
+
+pub setters : Sets (λ (g : Ground). g .window) withWindow
+    × Sets (λ (s : State). s .regs) withRegs
+    × Sets (λ (s : State). s .pc) withPc
+    × Sets (λ (s : State). s .arena) withArena
+setters = ((λ x g. (refl, refl)), (λ x s. (refl, refl)), (λ x s. (refl, refl)), (λ x s. (refl, refl)))
 
 -- How a step ended, and the state that it leaves.
 pub record Ended : Type 0 where
