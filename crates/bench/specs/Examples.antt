@@ -2,7 +2,7 @@
 use Rattle.std.specs.Prelude.{ℕ, ◌≡◌, refl, List, [], ◌∷◌, map}
 use Prim.Native.String.{String}
 use Rattle.place.specs.Place.{fetch_place_of}
-use Rattle.bytes.specs.Bytes.{get_le}
+use Rattle.byte_order.specs.Bytes.{get_le}
 use Rattle.alu.specs.Immediate.{immediate_of}
 use Rattle.shift.specs.Shift.{shift_of}
 use Rattle.opcode.specs.Families.{table}

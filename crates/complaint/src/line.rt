@@ -11,7 +11,7 @@ fn print_hex(before: &[u8], n: u64) {
 // Eight bytes as the text that they are.
 fn print_text(v: u64) {
     let mut eight = [0u8; 8];
-    bytes::put8(&mut eight, 0, v);
+    byte_order::put8(&mut eight, 0, v);
     io::write_all(STDOUT_FILENO, b"\"");
     io::write_all(STDOUT_FILENO, &eight);
     io::write_all(STDOUT_FILENO, b"\"\n");

@@ -17,7 +17,7 @@ pub fn eight_at(arena: &[u8], at: u64) -> Eight {
     if at > end - 8 {
         return Eight::None;
     }
-    Eight::Bytes(bytes::get8(arena, at as usize))
+    Eight::Bytes(byte_order::get8(arena, at as usize))
 }
 
 // What the old emulator would have read. It turned the address into a place in the arena and compared that with the arena's end,

@@ -1,7 +1,7 @@
 -- One step of the machine, over the whole arena with offsets (01, "Stops"): "Order at each instruction: budget; pc not a multiple of 4
 -- or outside code (ADEF); INE; ALE; ADEM or the instruction's own exception." The budget is the run's.
 use Rattle.std.specs.Prelude.{ℕ, ◌≡◌, List, length}
-use Rattle.bytes.specs.Bytes.{get_le}
+use Rattle.byte_order.specs.Bytes.{get_le}
 use Rattle.place.specs.declared.FetchPlace.{FetchPlace}
 use Rattle.place.specs.declared.GuestAddr.{GuestAddr}
 use Rattle.place.specs.Place.{fetch_place_of}

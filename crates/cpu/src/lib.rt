@@ -19,7 +19,7 @@ pub fn fetch(code: &[u8], pc: GuestAddr) -> Fetched
     ensures { result ≡ fetch_of code.now pc }
 {
     match place::fetch_place(code.len(), pc) {
-        FetchPlace::At(o) => Fetched::Word(bytes::get4(code, o.0) as u32),
+        FetchPlace::At(o) => Fetched::Word(byte_order::get4(code, o.0) as u32),
         FetchPlace::Outside => Fetched::Bad,
     }
 }

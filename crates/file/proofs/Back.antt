@@ -9,8 +9,8 @@ use lib.Dec.{ltb}
 use lib.ListN.{length, drop, get_or, drop_of_length-le}
 use lib.Seq.{drop-cons}
 use borrow.Author.Tests.{ltb-false}
-use Rattle.bytes.specs.Bytes.{get_le, bytes_le, AreBytes}
-use Rattle.bytes.proofs.Stands.{bytes_at}
+use Rattle.byte_order.specs.Bytes.{get_le, bytes_le, AreBytes}
+use Rattle.byte_order.proofs.Stands.{bytes_at}
 use Rattle.session.specs.declared.Session.{Session}
 use Rattle.session.specs.declared.Refusal.{Refusal}
 use Rattle.session.specs.declared.Refusal.TheVariants.{FileExtra}

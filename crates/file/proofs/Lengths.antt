@@ -4,8 +4,8 @@ use mathlib.Core.List.{List, [], ◌∷◌, ◌++◌}
 use Prim.Native.Nat.{ℕ, ◌+◌, ◌*◌}
 use native.Mathlib.Omega.{arith}
 use lib.ListN.{length, drop, length-append, length-drop}
-use Rattle.bytes.specs.Bytes.{bytes_le}
-use Rattle.bytes.proofs.Stands.{length_bytes}
+use Rattle.byte_order.specs.Bytes.{bytes_le}
+use Rattle.byte_order.proofs.Stands.{length_bytes}
 use Rattle.session.specs.declared.Note.{Note}
 use Rattle.session.specs.declared.Session.{Session}
 use Rattle.file.specs.Format.{bytes_of_each, note_row}

@@ -6,7 +6,7 @@ use Prim.Native.Nat.{ℕ, ◌≤◌}
 use lib.ListN.{length, drop, get_or}
 use lib.Seq.{take-append_seam}
 use borrow.Author.Tests.{eq-eqb, eqb-true, not-false, ltb-false, le-ltb}
-use Rattle.bytes.specs.Bytes.{AreBytes}
+use Rattle.byte_order.specs.Bytes.{AreBytes}
 use Rattle.session.specs.declared.Session.{Session}
 use Rattle.refuse.specs.declared.Verdict.{Verdict}
 use Rattle.refuse.specs.Refusals.{zero_due, verdict_of, refused_of}

@@ -7,8 +7,8 @@ use native.Mathlib.Omega.{arith}
 use lib.ListN.{length, drop, get_or, length-drop, length-append}
 use lib.Seq.{get_or-drop, drop-cons}
 use borrow.Author.Tests.{eqb-false, le-ltb}
-use Rattle.bytes.specs.Bytes.{get_le, bytes_le}
-use Rattle.bytes.proofs.Stands.{length_bytes, head_at, lt_at, past, read_at}
+use Rattle.byte_order.specs.Bytes.{get_le, bytes_le}
+use Rattle.byte_order.proofs.Stands.{length_bytes, head_at, lt_at, past, read_at}
 use Rattle.session.specs.declared.Session.{Session}
 use Rattle.session.specs.declared.Note.{Note}
 use Rattle.session.specs.Session.{fresh_of}

@@ -1,6 +1,6 @@
 -- More that 01 says of the file, each of all inputs. The proofs are in proofs/Edges.antt.
 use Rattle.std.specs.Prelude.{ℕ, ◌≤◌, ◌≡◌, List, length, get_or}
-use Rattle.bytes.specs.Bytes.{AreBytes}
+use Rattle.byte_order.specs.Bytes.{AreBytes}
 use Rattle.session.specs.declared.Note.{Note}
 use Rattle.session.specs.declared.Session.{Session}
 use Rattle.session.specs.declared.Refusal.{Refusal}

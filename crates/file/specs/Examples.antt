@@ -1,7 +1,7 @@
 -- 01's sentences on the file, worked out on a file of each form: where the bytes stand, and what reading a damaged file says. Each
 -- table is one computed test.
 use Rattle.std.specs.Prelude.{ℕ, ◌≡◌, refl, Bool, true, ◌&&◌, List, [], ◌∷◌, ◌++◌, eqb, take, get_or, set, replicate}
-use Rattle.bytes.specs.Bytes.{get_le, bytes_le}
+use Rattle.byte_order.specs.Bytes.{get_le, bytes_le}
 use Rattle.session.specs.declared.Note.{Note}
 use Rattle.session.specs.declared.Session.{Session}
 use Rattle.refuse.specs.Refusals.{refused_of}

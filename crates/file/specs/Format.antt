@@ -2,7 +2,7 @@
 -- registers r1 to r31, 248 bytes; 0x03 total, 8 bytes; optionally 0x04 note, 16 bytes; 0x05 end, no body." Writing (Writing.antt) and
 -- reading (Reading.antt) both go by these rows.
 use Rattle.std.specs.Prelude.{ℕ, zero, suc, ◌+◌, Bool, true, false, List, [], ◌∷◌, ◌++◌, drop}
-use Rattle.bytes.specs.Bytes.{get_le, bytes_le}
+use Rattle.byte_order.specs.Bytes.{get_le, bytes_le}
 use Rattle.session.specs.declared.Note.{Note}
 use Rattle.session.specs.declared.Session.{Session}
 use Rattle.session.specs.Session.{note_bytes}

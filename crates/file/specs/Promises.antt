@@ -2,7 +2,7 @@
 -- definitions: a paused session that is written out reads back the same, and a file that is read writes back to the same bytes. The proofs
 -- are in proofs/RoundTrip.antt.
 use Rattle.std.specs.Prelude.{ℕ, ◌≤◌, ◌≡◌, List, ◌++◌, length, take, drop}
-use Rattle.bytes.specs.Bytes.{AreBytes}
+use Rattle.byte_order.specs.Bytes.{AreBytes}
 use Rattle.session.specs.declared.Session.{Session}
 use Rattle.refuse.specs.declared.Verdict.{Verdict}
 use Rattle.refuse.specs.Refusals.{refused_of}

@@ -13,8 +13,8 @@ use Rattle.place.specs.declared.Width.{Width}
 use Rattle.place.specs.declared.Window.{Window}
 use Rattle.place.specs.Place.{window_base, bytes_of, within_of, locate_of}
 use Rattle.place.proofs.Reach.{within_true}
-use Rattle.bytes.specs.Bytes.{put_le}
-use Rattle.bytes.proofs.Numbers.{length_put, put_below, put_above, put_ext, get_ext}
+use Rattle.byte_order.specs.Bytes.{put_le}
+use Rattle.byte_order.proofs.Numbers.{length_put, put_below, put_above, put_ext, get_ext}
 use Rattle.isa.specs.declared.Decoded.{Decoded}
 use Rattle.isa.specs.declared.Load.{Load}
 use Rattle.opcode.specs.Decode.{decode_of}

@@ -1,7 +1,7 @@
 -- Manual 2.2.5: what a load reads and a store writes, over the whole arena.
 use Rattle.std.specs.Prelude.{ℕ, List}
 use Rattle.word.specs.Word.{sext}
-use Rattle.bytes.specs.Bytes.{get_le, put_le}
+use Rattle.byte_order.specs.Bytes.{get_le, put_le}
 use Rattle.isa.specs.declared.Load.{Load}
 use Rattle.isa.specs.declared.Load.TheVariants.{LdB, LdH, LdW, LdD, LdBu, LdHu, LdWu}
 use Rattle.isa.specs.declared.Store.{Store}

@@ -37,13 +37,13 @@ pub fn read(arena: &[u8], at: ArenaOffset, kind: Load) -> u64
     ensures { result ≡ loaded_of kind at arena.now }
 {
     match kind {
-        Load::LdB => word::sign_extend(bytes::get1(arena, at.0), 8),
-        Load::LdH => word::sign_extend(bytes::get2(arena, at.0), 16),
-        Load::LdW => word::sign_extend(bytes::get4(arena, at.0), 32),
-        Load::LdD => bytes::get8(arena, at.0),
-        Load::LdBu => bytes::get1(arena, at.0),
-        Load::LdHu => bytes::get2(arena, at.0),
-        Load::LdWu => bytes::get4(arena, at.0),
+        Load::LdB => word::sign_extend(byte_order::get1(arena, at.0), 8),
+        Load::LdH => word::sign_extend(byte_order::get2(arena, at.0), 16),
+        Load::LdW => word::sign_extend(byte_order::get4(arena, at.0), 32),
+        Load::LdD => byte_order::get8(arena, at.0),
+        Load::LdBu => byte_order::get1(arena, at.0),
+        Load::LdHu => byte_order::get2(arena, at.0),
+        Load::LdWu => byte_order::get4(arena, at.0),
     }
 }
 
@@ -53,9 +53,9 @@ pub fn write(arena: &mut [u8], at: ArenaOffset, width: Width, value: u64)
     ensures { arena.new ≡ stored_of width at value arena.old }
 {
     match width {
-        Width::Byte => bytes::put1(arena, at.0, value),
-        Width::Half => bytes::put2(arena, at.0, value),
-        Width::Word => bytes::put4(arena, at.0, value),
-        Width::Double => bytes::put8(arena, at.0, value),
+        Width::Byte => byte_order::put1(arena, at.0, value),
+        Width::Half => byte_order::put2(arena, at.0, value),
+        Width::Word => byte_order::put4(arena, at.0, value),
+        Width::Double => byte_order::put8(arena, at.0, value),
     }
 }

@@ -9,7 +9,7 @@ use lib.Dec.{ltb}
 use borrow.Author.Tests.{lt-ltb, le-ltb}
 use lib.ListN.{length, set, length-append}
 use lib.Seq.{sets, set_comm}
-use Rattle.bytes.proofs.Joined.{sets_append}
+use Rattle.byte_order.proofs.Joined.{sets_append}
 use Rattle.printed.specs.Digits.{glyph_of, digits, places, decimal, hex16}
 
 pub length_digits : (base k n : ℕ) → length (digits base k n) ≡ k

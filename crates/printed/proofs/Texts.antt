@@ -5,7 +5,7 @@ use Prim.Native.Nat.{ℕ, suc, ◌+◌, ◌≤◌, ◌<◌}
 use native.Mathlib.Omega.{arith}
 use lib.ListN.{length, drop, get_or, set, drop_of_length-le, length-append}
 use lib.Seq.{sets, drop-cons, length-sets}
-use Rattle.bytes.proofs.Joined.{joined}
+use Rattle.byte_order.proofs.Joined.{joined}
 use Rattle.printed.specs.Page.{Room, Puts}
 
 -- a turn of the loop: a byte is put, the others are still to come

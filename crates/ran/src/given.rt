@@ -99,7 +99,7 @@ pub fn well_made(line: &[u8]) -> bool {
 fn put_word(code: &mut [u8], at: usize, word: u32) {
     if at <= code.len() {
         if code.len() - at >= 4 {
-            bytes::put4(code, at, word as u64);
+            byte_order::put4(code, at, word as u64);
         }
     }
 }

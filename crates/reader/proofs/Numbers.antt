@@ -6,7 +6,7 @@ use native.Mathlib.Numerals.{add-one}
 use native.Mathlib.Omega.{arith}
 use lib.ListN.{length, take, set}
 use lib.Seq.{take-suc-set, append_snoc, take_all}
-use Rattle.bytes.specs.Bytes.{get_le}
+use Rattle.byte_order.specs.Bytes.{get_le}
 use Rattle.file.specs.Format.{numbers_at}
 
 -- one turn

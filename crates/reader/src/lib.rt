@@ -48,7 +48,7 @@ fn take_pc(file: &[u8], c: Cursor) -> Cursor
                 progress: Progress::At(at + 8),
                 session: Session {
                     regs: regs,
-                    pc: GuestAddr(bytes::get8(file, at)),
+                    pc: GuestAddr(byte_order::get8(file, at)),
                     total: s.total,
                     note: note,
                 },
@@ -69,7 +69,7 @@ fn registers(file: &[u8], at: usize) -> [u64; 32]
     let mut i: usize = 1;
     let mut from = at;
     while i < 32 {
-        regs[i] = bytes::get8(file, from);
+        regs[i] = byte_order::get8(file, from);
         from += 8;
         i += 1;
     }
@@ -117,7 +117,7 @@ fn take_total(file: &[u8], c: Cursor) -> Cursor
                 session: Session {
                     regs: regs,
                     pc: pc,
-                    total: bytes::get8(file, at),
+                    total: byte_order::get8(file, at),
                     note: note,
                 },
             }
@@ -150,8 +150,8 @@ fn take_note(file: &[u8], c: Cursor) -> Cursor
         Progress::At(at) => {
             let regs = s.regs;
             let pc = s.pc;
-            let low = bytes::get8(file, at);
-            let high = bytes::get8(file, at + 8);
+            let low = byte_order::get8(file, at);
+            let high = byte_order::get8(file, at + 8);
             Cursor {
                 progress: Progress::At(at + 16),
                 session: Session {

@@ -5,7 +5,7 @@
 -- arena's end fails cases 8 and 10.
 use Rattle.std.specs.Prelude.{ℕ, ◌+◌, ◌≡◌, refl, List, [], ◌∷◌, map}
 use Rattle.place.specs.Place.{locate_of, fetch_place_of}
-use Rattle.bytes.specs.Bytes.{get_le, bytes_le}
+use Rattle.byte_order.specs.Bytes.{get_le, bytes_le}
 use Rattle.alu.specs.Alu.{alu_of}
 use Rattle.alu.specs.Alsl.{alsl_of}
 use Rattle.alu.specs.Immediate.{immediate_of}

@@ -2,7 +2,7 @@
 -- a support note: 16 bytes, or absent and then without content."
 use Rattle.std.specs.Prelude.{ℕ, ◌^◌, ◌≡◌, refl, List, [], ◌∷◌, ◌++◌, replicate}
 use Rattle.place.specs.Place.{code_base}
-use Rattle.bytes.specs.Bytes.{bytes_le}
+use Rattle.byte_order.specs.Bytes.{bytes_le}
 use Rattle.session.specs.declared.Note.{Note}
 use Rattle.session.specs.declared.Session.{Session}
 

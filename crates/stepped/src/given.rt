@@ -92,7 +92,7 @@ pub fn put_word(code: &mut [u8], line: &[u8], word: u32) {
     if at < 65536 {
         let place = at as usize;
         if place + 4 <= code.len() {
-            bytes::put4(code, place, word as u64);
+            byte_order::put4(code, place, word as u64);
         }
     }
 }

@@ -11,8 +11,8 @@ use Rattle.place.specs.declared.Width.{Width}
 use Rattle.place.specs.declared.Window.{Window}
 use Rattle.place.specs.Place.{Inside, bytes_of}
 use Rattle.place.proofs.Reach.{beside}
-use Rattle.bytes.specs.Bytes.{put_le}
-use Rattle.bytes.proofs.Numbers.{length_put, put_below, put_above}
+use Rattle.byte_order.specs.Bytes.{put_le}
+use Rattle.byte_order.proofs.Numbers.{length_put, put_below, put_above}
 use Rattle.registers.specs.Registers.{reg}
 use Rattle.registers.proofs.Zero.{zero_kept}
 use Rattle.memory.specs.Memory.{stored_of}

@@ -2,7 +2,7 @@
 -- odd offset 3 of an arena of 24 bytes. All rows stand under one theorem, whose proof is "compute both sides".
 use Rattle.std.specs.Prelude.{ℕ, ◌≡◌, refl, List, [], ◌∷◌, map, set, replicate}
 use Rattle.place.specs.Place.{locate_of, fetch_place_of}
-use Rattle.bytes.specs.Bytes.{get_le, put_le, bytes_le}
+use Rattle.byte_order.specs.Bytes.{get_le, put_le, bytes_le}
 use Rattle.alu.specs.Alu.{alu_of}
 use Rattle.alu.specs.Immediate.{immediate_of}
 use Rattle.opcode.specs.Families.{table}

@@ -2,7 +2,7 @@
 use Rattle.std.specs.Prelude.{ℕ, ◌+◌, ◌-◌, ◌%◌, ◌≤◌, ◌≡◌, Bool, true, false, List, length, get_or}
 use Rattle.place.specs.declared.GuestAddr.{GuestAddr}
 use Rattle.place.specs.Place.{Inside, code_base}
-use Rattle.bytes.specs.Bytes.{get_le}
+use Rattle.byte_order.specs.Bytes.{get_le}
 use Rattle.isa.specs.declared.Decoded.{Decoded}
 use Rattle.isa.specs.declared.Instruction.{Instruction}
 use Rattle.opcode.specs.Decode.{decode_of}

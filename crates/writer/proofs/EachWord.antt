@@ -5,9 +5,9 @@ use Prim.Native.Nat.{ℕ, suc, ◌+◌, ◌≤◌, ◌<◌}
 use native.Mathlib.Numerals.{add-one}
 use lib.ListN.{length, drop, get_or, drop_of_length-le}
 use lib.Seq.{sets, drop-cons}
-use Rattle.bytes.specs.Bytes.{bytes_le}
-use Rattle.bytes.proofs.Stands.{length_bytes}
-use Rattle.bytes.proofs.Joined.{joined}
+use Rattle.byte_order.specs.Bytes.{bytes_le}
+use Rattle.byte_order.proofs.Stands.{length_bytes}
+use Rattle.byte_order.proofs.Joined.{joined}
 use Rattle.file.specs.Format.{bytes_of_each}
 
 -- the registers from i on: the first of them and the others, or none

@@ -1,7 +1,7 @@
 // Writing a paused session: one kind a function, each of which returns where the next kind goes.
 ghost use Rattle.std.specs.Prelude.{◌≡◌, [], ◌∷◌, ◌+◌, ◌≤◌, length, drop};
 ghost use Rattle.std.proofs.lemmas.List.Edits.{sets};
-ghost use Rattle.bytes.specs.Bytes.{bytes_le};
+ghost use Rattle.byte_order.specs.Bytes.{bytes_le};
 ghost use Rattle.refuse.specs.Refusals.{verdict_of};
 ghost use Rattle.file.specs.Format.{bytes_of_each, registers_row, note_row};
 ghost use Rattle.file.specs.Promises.{Writes};
@@ -23,7 +23,7 @@ fn put_word(buffer: &mut [u8], at: usize, value: u64) -> usize
     requires { at + 8 ≤ length buffer.old }
     ensures { (result ≡ at + 8) × (buffer.new ≡ sets buffer.old at (bytes_le 8 value)) }
 {
-    bytes::put8(buffer, at, value);
+    byte_order::put8(buffer, at, value);
     at + 8
 }
 

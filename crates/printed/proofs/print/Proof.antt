@@ -6,7 +6,7 @@ use borrow.Author.Rules.{rules}
 use Prim.Native.Nat.{◌≤◌}
 use lib.ListN.{length}
 use lib.Seq.{length-take-le}
-use Rattle.bytes.proofs.Joined.{in_front}
+use Rattle.byte_order.proofs.Joined.{in_front}
 use Rattle.printed.specs.Lines.{printed_of}
 use Rattle.printed.proofs.Texts.{length_put}
 use Rattle.printed.proofs.print.Statement.{statement}

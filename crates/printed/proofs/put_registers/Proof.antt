@@ -7,7 +7,7 @@ use native.Mathlib.Omega.{arith}
 use borrow.Author.Rules.{rules}
 use lib.ListN.{length, drop, get_or, length-append}
 use lib.Seq.{sets, length-sets}
-use Rattle.bytes.proofs.Joined.{joined}
+use Rattle.byte_order.proofs.Joined.{joined}
 use Rattle.printed.specs.Lines.{register_line, register_lines}
 use Rattle.printed.specs.Page.{Room, Puts}
 use Rattle.printed.proofs.Texts.{first_room, next_room}

@@ -4,12 +4,12 @@ use Prim.Native.Nat.{◌+◌}
 use native.Mathlib.Omega.{arith}
 use borrow.Author.Rules.{rules}
 use lib.ListN.{length}
-use Rattle.bytes.proofs.Stands.{length_bytes}
+use Rattle.byte_order.proofs.Stands.{length_bytes}
 use Rattle.file.specs.Format.{pc_row, registers_row, total_row, note_row, end_row}
 use Rattle.file.specs.Writing.{part_bytes, file_of}
 use Rattle.file.proofs.Lengths.{length_registers, length_file}
 use Rattle.session.proofs.Fits.{session_fits}
-use Rattle.bytes.proofs.Joined.{joined}
+use Rattle.byte_order.proofs.Joined.{joined}
 use Rattle.writer.proofs.put_file.Statement.{statement}
 use Rattle.writer.proofs.put_file.Tie as tie
 

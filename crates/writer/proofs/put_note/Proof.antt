@@ -3,10 +3,10 @@ use mathlib.Core.Path.{refl}
 use mathlib.Core.List.{◌∷◌}
 use native.Mathlib.Omega.{arith}
 use borrow.Author.Rules.{rules}
-use Rattle.bytes.specs.Bytes.{bytes_le}
-use Rattle.bytes.proofs.Stands.{length_bytes}
+use Rattle.byte_order.specs.Bytes.{bytes_le}
+use Rattle.byte_order.proofs.Stands.{length_bytes}
 use Rattle.file.proofs.Lengths.{part_absent, part_present, length_present}
-use Rattle.bytes.proofs.Joined.{joined}
+use Rattle.byte_order.proofs.Joined.{joined}
 use Rattle.writer.proofs.put_note.Statement.{statement}
 use Rattle.writer.proofs.put_note.Tie as tie
 

@@ -2,8 +2,8 @@
 use mathlib.Core.List.{[], ◌∷◌}
 use native.Mathlib.Omega.{arith}
 use borrow.Author.Rules.{rules}
-use Rattle.bytes.specs.Bytes.{bytes_le}
-use Rattle.bytes.proofs.Joined.{joined}
+use Rattle.byte_order.specs.Bytes.{bytes_le}
+use Rattle.byte_order.proofs.Joined.{joined}
 use Rattle.writer.proofs.put_number.Statement.{statement}
 use Rattle.writer.proofs.put_number.Tie as tie
 

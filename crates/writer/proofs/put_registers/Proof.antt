@@ -4,7 +4,7 @@ use native.Mathlib.Omega.{arith}
 use borrow.Author.Rules.{rules}
 use lib.ListN.{drop}
 use Rattle.file.specs.Format.{bytes_of_each}
-use Rattle.bytes.proofs.Joined.{joined}
+use Rattle.byte_order.proofs.Joined.{joined}
 use Rattle.writer.proofs.put_registers.Statement.{statement}
 use Rattle.writer.proofs.put_registers.Tie as tie
 

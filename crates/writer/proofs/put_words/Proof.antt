@@ -4,7 +4,7 @@ use Prim.Native.Nat.{◌+◌, ◌*◌, ◌-◌, ◌≤◌}
 use native.Mathlib.Omega.{arith}
 use lib.ListN.{length, drop, get_or}
 use lib.Seq.{sets, length-sets}
-use Rattle.bytes.specs.Bytes.{bytes_le}
+use Rattle.byte_order.specs.Bytes.{bytes_le}
 use Rattle.file.specs.Format.{bytes_of_each}
 use Rattle.writer.proofs.EachWord.{each_turn, each_done}
 use Rattle.writer.proofs.put_words.Statement.{statement}

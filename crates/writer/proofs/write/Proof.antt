@@ -6,7 +6,7 @@ use Rattle.session.specs.Fit.{Fit}
 use Rattle.file.specs.Writing.{file_of}
 use Rattle.session.proofs.Fits.{session_fits}
 use Rattle.file.proofs.RoundTrip.{by_verdict, write_room}
-use Rattle.bytes.proofs.Joined.{in_front}
+use Rattle.byte_order.proofs.Joined.{in_front}
 use Rattle.writer.proofs.write.Statement.{statement}
 use Rattle.writer.proofs.write.Tie as tie
 
