@@ -1,4 +1,4 @@
--- `short_words::short_ones` meets its contract: a line for each arm, and the last one by a law over the table. Assumes nothing.
+-- `short_words::short_ones` meets its contract: a line for each arm, and the last one by a law over the table.
 use mathlib.Core.Path.{◌≡◌, sym, ap, ◌∙◌}
 use mathlib.Core.Bool.{Bool, true, ◌&&◌}
 use Prim.Native.Nat.{ℕ, ◌+◌, ◌*◌, ◌/◌, ◌%◌, ◌^◌, ◌<◌}
@@ -13,8 +13,7 @@ use Rattle.opcode.specs.Decode.{decode_of}
 use Rattle.opcode.specs.Families.{table}
 use Rattle.opcode.proofs.Narrow.{narrow, rest, ends_zero}
 use Rattle.short_words.specs.Found.{assertion}
-use Rattle.short_words.proofs.short_ones.Statement.{statement}
-use Rattle.short_words.proofs.short_ones.Tie as tie
+use Rattle.short_words.proofs.short_ones.Goals as goal
 
 -- ASRT's arms: the low five bits decide. What they decide and what the table has are said apart, each over a plain word: together the
 -- prover reads the whole table to find the term between the two.
@@ -38,15 +37,22 @@ less-or-equal {w} f q = low-five AsrtleD w q (lit< tt) ∙ row-le f q
 greater : {w : ℕ} → Fits w32 w → w / 2 ^ 15 ≡ 3 → assertion (eqb (w % 2 ^ 5) 0) AsrtgtD w ≡ decode_of w
 greater {w} f q = low-five AsrtgtD w q (lit< tt) ∙ row-gt f q
 
-pub short-ones-spec : {M : Type 1} → statement M
+pub unaries-requires : goal.unaries-requires
 unfolding table
-short-ones-spec =
-    tie.close
-    (tie.spec
-    (λ c κs. c.match.keys1) (λ c κs. search rules)
-    (λ c κs. search rules)
-    (λ c κs. search rules)
-    (λ c. c.two.ensures ∙ c.before.unaries.ensures)
-    (λ c. c.assert.ensures ∙ less-or-equal c.before.before.ranges.word c.before.match.keys2)
-    (λ c. c.assert2.ensures ∙ greater c.before.before.ranges.word c.before.match.keys3)
-    (λ c. rest c.before.ranges.word 18 15 c.before.requires c.match.rest tt))
+unaries-requires c = c.in-0.is
+
+pub returns-in-0 : goal.returns-in-0
+unfolding table
+returns-in-0 c = c.two.ensures ∙ c.unaries.ensures
+
+pub returns-in-2 : goal.returns-in-2
+unfolding table
+returns-in-2 c = c.assert.ensures ∙ less-or-equal c.ranges.word c.in-2.is
+
+pub returns-in-3 : goal.returns-in-3
+unfolding table
+returns-in-3 c = c.assert-in-3.ensures ∙ greater c.ranges.word c.in-3.is
+
+pub returns-in_default : goal.returns-in_default
+unfolding table
+returns-in_default c = rest c.ranges.word 18 15 c.requires c.in_default.in_default-own.rest tt

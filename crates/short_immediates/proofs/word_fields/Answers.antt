@@ -1,4 +1,4 @@
--- `short_immediates::word_fields` meets its contract: the first bits and bit 15 are all of the opcode. Assumes nothing.
+-- `short_immediates::word_fields` meets its contract: the first bits and bit 15 are all of the opcode.
 use mathlib.Core.Path.{◌≡◌, sym, ◌∙◌}
 use mathlib.Core.Bool.{cond, ◌&&◌}
 use Prim.Native.Nat.{ℕ, ◌+◌, ◌*◌, ◌/◌, ◌%◌, ◌^◌}
@@ -16,8 +16,7 @@ use Rattle.isa.specs.declared.Decoded.TheVariants.{Known, Unknown}
 use Rattle.opcode.specs.Decode.{decode_of}
 use Rattle.opcode.specs.Families.{table}
 use Rattle.opcode.proofs.Narrow.{narrow, last_bit}
-use Rattle.short_immediates.proofs.word_fields.Statement.{statement}
-use Rattle.short_immediates.proofs.word_fields.Tie as tie
+use Rattle.short_immediates.proofs.word_fields.Goals as goal
 
 -- a bit field of a word, if the word exists
 abbrev wordField : Field → ℕ → Decoded
@@ -40,19 +39,14 @@ insert {w} f p q = sym (by_rows f p ∙ (λ i. rows w (p i) (q i)))
 pick : {w : ℕ} → Fits w32 w → w / 2 ^ 21 ≡ 3 → w / 2 ^ 15 % 2 ≡ 1 → wordField BstrpickW w ≡ decode_of w
 pick {w} f p q = sym (by_rows f p ∙ (λ i. rows w (p i) (q i)))
 
-pub word-fields-spec : {M : Type 1} → statement M
-word-fields-spec =
-    tie.close
-    (tie.spec
-    (λ c κs. search rules)
-    (λ c κs. search rules)
-    (λ c κs. search rules)
-    (λ c κs. search rules)
-    (λ c.
-    let s = c.before.before.before.before in
-    rw (c.only_if.ensures, c.before.before.of-field-w.ensures, c.before.before.before.field-w-exists.ensures)
-    (insert s.ranges.word s.requires c.before.if1.true))
-    (λ c.
-    let s = c.before.before.before.before in
-    rw (c.only-if2.ensures, c.before.before.of-field-w.ensures, c.before.before.before.field-w-exists.ensures)
-    (pick s.ranges.word s.requires (last_bit _ (λ z. absurd (c.before.if1.false z)) (λ o. o)))))
+pub returns-then-word-eq0 : goal.returns-then-word-eq0
+returns-then-word-eq0 c =
+    let s = c in
+    rw (c.only_if.ensures, c.of_field_w-o.ensures, c.field_w_exists-exists.ensures)
+    (insert s.ranges.word s.requires c.if-word-eq0.true)
+
+pub returns-else-word-eq0 : goal.returns-else-word-eq0
+returns-else-word-eq0 c =
+    let s = c in
+    rw (c.only_if-else-word-eq0.ensures, c.of_field_w-o.ensures, c.field_w_exists-exists.ensures)
+    (pick s.ranges.word s.requires (last_bit _ (λ z. absurd (c.if-word-eq0.false z)) (λ o. o)))
