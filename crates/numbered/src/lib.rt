@@ -8,7 +8,7 @@ use isa::{Decoded, FieldOperands, HintOperands, Instruction, Operands};
 
 // The record that crosses to C: numbers only. Family 0 is "no such instruction".
 #[repr(C)]
-#[derive(Drop)]
+#[derive(Clone, Copy)]
 pub struct DecodedRecord {
     pub family: u64,
     pub operation: u64,

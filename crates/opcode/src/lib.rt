@@ -12,7 +12,7 @@ use quotient::Division;
 use shift::Shift;
 
 // The operation, or that the word does not exist.
-#[derive(Drop)]
+#[derive(Clone, Copy)]
 pub enum ThreeR {
     Alu(Alu),
     Product(Product),
@@ -21,14 +21,14 @@ pub enum ThreeR {
     Missing,
 }
 
-#[derive(Drop)]
+#[derive(Clone, Copy)]
 pub enum TwoR {
     Unary(Unary),
     Config(Config),
     Missing,
 }
 
-#[derive(Drop)]
+#[derive(Clone, Copy)]
 pub enum Access {
     Load(Load),
     Store(Store),
