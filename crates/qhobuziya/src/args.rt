@@ -78,6 +78,10 @@ pub fn differ(rt: &impl System, i: usize, j: usize) -> bool {
     }
     let mut word = [0u8; LONGEST];
     let n = fetch(rt, i, &mut word);
-    message::usage_of(rt, b"one file is given in two places", text::part(&word, 0, n));
+    message::usage_of(
+        rt,
+        b"one file is given in two places",
+        text::part(&word, 0, n),
+    );
     false
 }

@@ -20,5 +20,8 @@ pub fn decode(rt: &impl System, g: Given) {
         return;
     }
     let word = (n.value % 0x1_0000_0000) as u32;
-    out::line(rt, Line::empty().hex(n.value, 8).add(b" ").join(text_of(word)));
+    out::line(
+        rt,
+        Line::empty().hex(n.value, 8).add(b" ").join(text_of(word)),
+    );
 }

@@ -174,7 +174,14 @@ fn target(g: Given, from: usize) -> usize {
 }
 
 // Writes a card, if there is one, and the session that goes with it, unless nothing is to be written. Answers whether all went well.
-pub fn all(rt: &impl System, g: Given, card: usize, bytes: &[u8], from: usize, session: Session) -> bool {
+pub fn all(
+    rt: &impl System,
+    g: Given,
+    card: usize,
+    bytes: &[u8],
+    from: usize,
+    session: Session,
+) -> bool {
     let options = g.options;
     if options[command::DRY] != 0 {
         return true;
@@ -183,7 +190,13 @@ pub fn all(rt: &impl System, g: Given, card: usize, bytes: &[u8], from: usize, s
     let w = writer::write(session, &mut file);
     let verdict = w.verdict;
     match verdict {
-        Verdict::Accepted => files(rt, card, bytes, target(g, from), text::part(&file, 0, w.len)),
+        Verdict::Accepted => files(
+            rt,
+            card,
+            bytes,
+            target(g, from),
+            text::part(&file, 0, w.len),
+        ),
         Verdict::Refused(refusal) => {
             out::refused(rt, refusal, session);
             false

@@ -36,7 +36,10 @@ pub fn open_update<R: System>(rt: &R, path: &[u8]) -> io::Result<R::File> {
 // A file that must not be there yet.
 pub fn create<R: System>(rt: &R, path: &[u8]) -> io::Result<R::File> {
     let text = text_of(path)?;
-    OpenOptions::new().write(true).create_new(true).open(rt, text)
+    OpenOptions::new()
+        .write(true)
+        .create_new(true)
+        .open(rt, text)
 }
 
 pub fn rename(rt: &impl System, from: &[u8], to: &[u8]) -> io::Result<()> {
