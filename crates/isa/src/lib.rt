@@ -1,4 +1,7 @@
 // Instructions: families, operations and operands.
+
+#![tactic(auto)]
+
 ghost use Rattle.std.specs.Prelude.{◌≡◌, cond};
 ghost use Rattle.isa.specs.declared.Decoded.TheVariants.{Known, Unknown};
 
