@@ -1,4 +1,7 @@
 // A decoded word as plain numbers: family, operation and operands. For callers that have no enums.
+
+#![tactic(auto)]
+
 mod operations;
 
 ghost use Rattle.std.specs.Prelude.{◌≡◌};

@@ -1,5 +1,8 @@
 // What the opcode of a word is, where words of one format have many. A function for each beginning that words have in common: its arms
 // stand in the table's order, which is what the proof of the last arm asks.
+
+#![tactic(auto)]
+
 ghost use Rattle.std.specs.Prelude.{◌≡◌, ◌/◌, ◌^◌};
 ghost use Rattle.opcode.specs.Decode.{decode_of};
 ghost use Rattle.opcode.specs.Found.{three_r, two_r};
