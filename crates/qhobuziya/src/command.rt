@@ -1,7 +1,8 @@
 // The commands, and which words and options each has.
+use crate::system::System;
 use crate::{args, message};
 
-#[derive(Drop)]
+#[derive(Clone, Copy)]
 pub enum Command {
     Run,
     Trace,
@@ -24,54 +25,54 @@ pub const BUDGET: usize = 3;
 // No option.
 pub const NONE: usize = 4;
 
-fn command_of(word: &[u8]) -> Command {
-    if check::same(word, b"run") {
+fn command_of(rt: &impl System, word: &[u8]) -> Command {
+    if word == b"run".as_slice() {
         return Command::Run;
     }
-    if check::same(word, b"trace") {
+    if word == b"trace".as_slice() {
         return Command::Trace;
     }
-    if check::same(word, b"answer") {
+    if word == b"answer".as_slice() {
         return Command::Answer;
     }
-    if check::same(word, b"decode") {
+    if word == b"decode".as_slice() {
         return Command::Decode;
     }
-    if check::same(word, b"show") {
+    if word == b"show".as_slice() {
         return Command::Show;
     }
-    if check::same(word, b"help") {
+    if word == b"help".as_slice() {
         return Command::Help;
     }
-    message::usage_of(b"there is no such command", word);
+    message::usage_of(rt, b"there is no such command", word);
     Command::Unknown
 }
 
 // The first argument.
-pub fn first() -> Command {
+pub fn first(rt: &impl System) -> Command {
     let mut word = [0u8; args::LONGEST];
-    if os::arg_count() < 2 {
-        message::usage(b"no command is given");
+    if args::count(rt) < 2 {
+        message::usage(rt, b"no command is given");
         return Command::Unknown;
     }
-    if !args::is_sound(1) {
+    if !args::is_sound(rt, 1) {
         return Command::Unknown;
     }
-    let n = args::fetch(1, &mut word);
-    command_of(text::part(&word, 0, n))
+    let n = args::fetch(rt, 1, &mut word);
+    command_of(rt, text::part(&word, 0, n))
 }
 
 pub fn option_of(word: &[u8]) -> usize {
-    if check::same(word, b"--dry") {
+    if word == b"--dry".as_slice() {
         return DRY;
     }
-    if check::same(word, b"--from") {
+    if word == b"--from".as_slice() {
         return FROM;
     }
-    if check::same(word, b"--to") {
+    if word == b"--to".as_slice() {
         return TO;
     }
-    if check::same(word, b"--budget") {
+    if word == b"--budget".as_slice() {
         return BUDGET;
     }
     NONE
@@ -97,13 +98,13 @@ pub fn wanted(c: Command) -> usize {
     }
 }
 
-pub fn missing(c: Command) {
+pub fn missing(rt: &impl System, c: Command) {
     match c {
-        Command::Run => message::usage(b"run needs MODULE and CARD"),
-        Command::Trace => message::usage(b"trace needs MODULE and CARD"),
-        Command::Answer => message::usage(b"answer needs MODULE, SESSION and VALUE"),
-        Command::Decode => message::usage(b"decode needs WORD"),
-        Command::Show => message::usage(b"show needs SESSION"),
-        _ => message::usage(b"no command is given"),
+        Command::Run => message::usage(rt, b"run needs MODULE and CARD"),
+        Command::Trace => message::usage(rt, b"trace needs MODULE and CARD"),
+        Command::Answer => message::usage(rt, b"answer needs MODULE, SESSION and VALUE"),
+        Command::Decode => message::usage(rt, b"decode needs WORD"),
+        Command::Show => message::usage(rt, b"show needs SESSION"),
+        _ => message::usage(rt, b"no command is given"),
     }
 }

@@ -1,5 +1,6 @@
 // A word as an instruction.
 use crate::given::Given;
+use crate::system::System;
 use crate::{number, out};
 use isa::Decoded;
 use names::Line;
@@ -12,12 +13,15 @@ pub fn text_of(word: u32) -> Line {
     }
 }
 
-pub fn decode(g: Given) {
+pub fn decode(rt: &impl System, g: Given) {
     let words = g.words;
-    let n = number::word(words[0]);
+    let n = number::word(rt, words[0]);
     if !n.good {
         return;
     }
     let word = (n.value % 0x1_0000_0000) as u32;
-    out::line(Line::empty().hex(n.value, 8).add(b" ").join(text_of(word)));
+    out::line(
+        rt,
+        Line::empty().hex(n.value, 8).add(b" ").join(text_of(word)),
+    );
 }

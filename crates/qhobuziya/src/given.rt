@@ -1,9 +1,10 @@
 // What a command is given: where its words and the values of its options stand among the arguments.
 use crate::command::Command;
+use crate::system::System;
 use crate::{args, command, message};
 
 // Where the words of a command stand and where its options, or their values: 0 is "not given".
-#[derive(Drop)]
+#[derive(Clone, Copy)]
 pub struct Given {
     pub good: bool,
     pub words: [usize; 3],
@@ -29,10 +30,10 @@ fn bad(g: Given) -> Given {
 }
 
 // An option that waits for its value, and has none.
-fn no_value(g: Given, i: usize) -> Given {
+fn no_value(rt: &impl System, g: Given, i: usize) -> Given {
     let mut word = [0u8; args::LONGEST];
-    let n = args::fetch(std::num::wrapping_sub_usize(i, 1), &mut word);
-    message::usage_by(text::part(&word, 0, n), b" has no value");
+    let n = args::fetch(rt, std::num::wrapping_sub_usize(i, 1), &mut word);
+    message::usage_by(rt, text::part(&word, 0, n), b" has no value");
     bad(g)
 }
 
@@ -46,7 +47,7 @@ fn kept(g: Given, option: usize, i: usize) -> Given {
     k
 }
 
-fn take_word(g: Given, c: Command, i: usize, word: &[u8]) -> Given {
+fn take_word(rt: &impl System, g: Given, c: Command, i: usize, word: &[u8]) -> Given {
     let mut k = g;
     let count = g.count;
     if count < 3 && count < command::wanted(c) {
@@ -54,7 +55,7 @@ fn take_word(g: Given, c: Command, i: usize, word: &[u8]) -> Given {
         k.count = count + 1;
         return k;
     }
-    message::usage_of(b"one argument too many", word);
+    message::usage_of(rt, b"one argument too many", word);
     bad(g)
 }
 
@@ -67,16 +68,16 @@ fn is_given(g: Given, option: usize) -> bool {
     }
 }
 
-fn take_option(g: Given, c: Command, i: usize, word: &[u8]) -> Given {
+fn take_option(rt: &impl System, g: Given, c: Command, i: usize, word: &[u8]) -> Given {
     let option = command::option_of(word);
     if !command::has(c, option) {
         let mut name = [0u8; args::LONGEST];
-        let n = args::fetch(1, &mut name);
-        message::usage_option(text::part(&name, 0, n), word);
+        let n = args::fetch(rt, 1, &mut name);
+        message::usage_option(rt, text::part(&name, 0, n), word);
         return bad(g);
     }
     if is_given(g, option) {
-        message::usage_by(word, b" is given twice");
+        message::usage_by(rt, word, b" is given twice");
         return bad(g);
     }
     if option == command::DRY {
@@ -88,49 +89,49 @@ fn take_option(g: Given, c: Command, i: usize, word: &[u8]) -> Given {
 }
 
 // What begins with - is an option.
-fn take(g: Given, c: Command, i: usize) -> Given {
-    if !args::is_sound(i) {
+fn take(rt: &impl System, g: Given, c: Command, i: usize) -> Given {
+    if !args::is_sound(rt, i) {
         return bad(g);
     }
     let mut bytes = [0u8; args::LONGEST];
-    let n = args::fetch(i, &mut bytes);
+    let n = args::fetch(rt, i, &mut bytes);
     let word = text::part(&bytes, 0, n);
     let is_option = text::byte(word, 0) == b'-';
     if g.waiting != command::NONE {
         if is_option {
-            return no_value(g, i);
+            return no_value(rt, g, i);
         }
         return kept(g, g.waiting, i);
     }
     if is_option {
-        return take_option(g, c, i, word);
+        return take_option(rt, g, c, i, word);
     }
-    take_word(g, c, i, word)
+    take_word(rt, g, c, i, word)
 }
 
 // What can be said only when all arguments were taken.
-fn whole(g: Given, c: Command, n: usize) -> Given {
+fn whole(rt: &impl System, g: Given, c: Command, n: usize) -> Given {
     if !g.good {
         return g;
     }
     if g.waiting != command::NONE {
-        return no_value(g, n);
+        return no_value(rt, g, n);
     }
     if g.count < command::wanted(c) {
-        command::missing(c);
+        command::missing(rt, c);
         return bad(g);
     }
     g
 }
 
 // The arguments behind the command.
-pub fn rest(c: Command) -> Given {
-    let n = os::arg_count();
+pub fn rest(rt: &impl System, c: Command) -> Given {
+    let n = args::count(rt);
     let mut g = nothing();
     for i in 2usize..n {
         if g.good {
-            g = take(g, c, i);
+            g = take(rt, g, c, i);
         }
     }
-    whole(g, c, n)
+    whole(rt, g, c, n)
 }

@@ -1,6 +1,10 @@
 // All that the program can do, in one screen.
-pub fn help() {
-    crate::out::write(
+use crate::out;
+use crate::system::System;
+
+pub fn help(rt: &impl System) {
+    out::write(
+        rt,
         b"qhobuziya: runs LoongArch LA64 fare modules, by proved host calls on files
 
   qhobuziya run MODULE CARD [--from SESSION] [--to SESSION] [--budget N] [--dry]

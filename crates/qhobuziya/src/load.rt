@@ -1,7 +1,10 @@
 // The files that a command works on, by the places of their arguments.
-use crate::{args, message, out};
+use crate::system::System;
+use crate::{args, message, out, system};
 use refuse::Verdict;
 use session::{Refusal, Session};
+use std::io;
+use std::io::Read;
 
 // A word more than code or window may have: enough for the call to see that there is too much.
 pub const MOST: usize = 65540;
@@ -17,36 +20,36 @@ pub struct Loaded {
     more: bool,
 }
 
-fn read_on(fd: i32, buffer: &mut [u8], len: usize) -> Loaded {
+fn read_on(file: &mut impl Read, buffer: &mut [u8], len: usize) -> io::Result<Loaded> {
     if buffer.len() <= len {
-        return Loaded {
+        return Ok(Loaded {
             good: true,
             len: len,
             more: false,
-        };
+        });
     }
-    let got = libc::read(fd, &mut buffer[len..]);
-    let n = io::count(got, buffer);
-    Loaded {
-        good: got >= 0,
-        len: std::num::wrapping_add_usize(len, n),
-        more: got > 0,
-    }
+    let n = file.read(&mut buffer[len..])?;
+    Ok(Loaded {
+        good: true,
+        len: len.wrapping_add(n),
+        more: n > 0,
+    })
 }
 
 // Reads until the buffer is full or the file ends. Each turn but the last reads a byte or more, so there are turns enough.
-fn fill(fd: i32, buffer: &mut [u8]) -> Loaded {
+fn fill(file: &mut impl Read, buffer: &mut [u8]) -> io::Result<Loaded> {
     let mut l = Loaded {
         good: true,
         len: 0,
         more: true,
     };
-    let mut turns = buffer.len();
-    while turns > 0 && l.more {
-        l = read_on(fd, buffer, l.len);
-        turns -= 1;
+    for _ in 0usize..buffer.len() {
+        if !l.more {
+            break;
+        }
+        l = read_on(file, buffer, l.len)?;
     }
-    l
+    Ok(l)
 }
 
 fn nothing() -> Loaded {
@@ -57,22 +60,24 @@ fn nothing() -> Loaded {
     }
 }
 
+// The start of the file at a path.
+fn start_of(rt: &impl System, path: &[u8], buffer: &mut [u8]) -> io::Result<Loaded> {
+    let mut file = system::open_read(rt, path)?;
+    fill(&mut file, buffer)
+}
+
 // Reads the start of the file that argument i names, or says why it cannot.
-pub fn file(i: usize, buffer: &mut [u8]) -> Loaded {
+pub fn file(rt: &impl System, i: usize, buffer: &mut [u8]) -> Loaded {
     let mut name = [0u8; args::LONGEST];
-    let n = args::fetch(i, &mut name);
+    let n = args::fetch(rt, i, &mut name);
     let path = text::part(&name, 0, n);
-    let fd = os::open_read(path);
-    if fd < 0 {
-        message::failed(path);
-        return nothing();
+    match start_of(rt, path, buffer) {
+        Ok(l) => l,
+        Err(e) => {
+            message::failed(rt, path, e);
+            nothing()
+        }
     }
-    let l = fill(fd, buffer);
-    if !l.good {
-        message::failed(path);
-    }
-    libc::close(fd);
-    l
 }
 
 // A session to begin with, if there is one.
@@ -90,13 +95,14 @@ fn no_start() -> Start {
 }
 
 // A refused read also has an offset.
-fn refuse_file(i: usize, refusal: Refusal, offset: usize) {
+fn refuse_file(rt: &impl System, i: usize, refusal: Refusal, offset: usize) {
     let mut name = [0u8; args::LONGEST];
     let mut shown = [0u8; args::LONGEST];
-    let n = args::fetch(i, &mut name);
+    let n = args::fetch(rt, i, &mut name);
     let m = args::show(text::part(&name, 0, n), &mut shown);
-    if out::refused(refusal, Session::fresh()) && out::write(text::part(&shown, 0, m)) {
+    if out::refused(rt, refusal, Session::fresh()) && out::write(rt, text::part(&shown, 0, m)) {
         out::line(
+            rt,
             names::Line::empty()
                 .add(b": offset ")
                 .decimal(offset as u64),
@@ -105,9 +111,9 @@ fn refuse_file(i: usize, refusal: Refusal, offset: usize) {
 }
 
 // The paused session in the file that argument i names.
-pub fn paused(i: usize) -> Start {
+pub fn paused(rt: &impl System, i: usize) -> Start {
     let mut bytes = [0u8; FILE];
-    let l = file(i, &mut bytes);
+    let l = file(rt, i, &mut bytes);
     if !l.good {
         return no_start();
     }
@@ -120,19 +126,19 @@ pub fn paused(i: usize) -> Start {
             session: session,
         },
         Verdict::Refused(refusal) => {
-            refuse_file(i, refusal, r.offset);
+            refuse_file(rt, i, refusal, r.offset);
             no_start()
         }
     }
 }
 
 // The same, or a new one where no file is named.
-pub fn begin(i: usize) -> Start {
+pub fn begin(rt: &impl System, i: usize) -> Start {
     if i == 0 {
         return Start {
             good: true,
             session: Session::start(),
         };
     }
-    paused(i)
+    paused(rt, i)
 }

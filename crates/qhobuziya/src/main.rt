@@ -1,5 +1,7 @@
 // Qhobuziya on the command line: the five host calls on files, and a trace. Results go to standard output, messages to standard error;
-// a Rattle program has no exit status.
+// the exit status is always 0.
+#![tactic(auto)]
+
 mod answer;
 mod args;
 mod command;
@@ -14,30 +16,32 @@ mod out;
 mod run;
 mod save;
 mod show;
+mod system;
 mod trace;
 
 use command::Command;
 use given::Given;
+use system::System;
 
 // A command that is whole.
-fn obey(c: Command, g: Given) {
+fn obey(rt: &impl System, c: Command, g: Given) {
     match c {
-        Command::Run => run::run(g),
-        Command::Trace => trace::trace(g),
-        Command::Answer => answer::answer(g),
-        Command::Decode => decode::decode(g),
-        Command::Show => show::show(g),
-        _ => help::help(),
+        Command::Run => run::run(rt, g),
+        Command::Trace => trace::trace(rt, g),
+        Command::Answer => answer::answer(rt, g),
+        Command::Decode => decode::decode(rt, g),
+        Command::Show => show::show(rt, g),
+        _ => help::help(rt),
     }
 }
 
-fn main() {
-    let c = command::first();
+fn main(rt: HostRuntime) {
+    let c = command::first(&rt);
     if let Command::Unknown = c {
         return;
     }
-    let g = given::rest(c);
+    let g = given::rest(&rt, c);
     if g.good {
-        obey(c, g);
+        obey(&rt, c, g);
     }
 }

@@ -1,5 +1,6 @@
 // The numbers that a command is given, by the places of their arguments.
 use crate::numeral::Parsed;
+use crate::system::System;
 use crate::{args, message, numeral};
 use session::Session;
 
@@ -11,7 +12,7 @@ pub struct Number {
 }
 
 // The number, or what is wrong with the argument.
-fn judged(p: Parsed, word: &[u8], no_number: &[u8], too_large: &[u8]) -> Number {
+fn judged(rt: &impl System, p: Parsed, word: &[u8], no_number: &[u8], too_large: &[u8]) -> Number {
     match p {
         Parsed::Number(v) => {
             return Number {
@@ -19,8 +20,8 @@ fn judged(p: Parsed, word: &[u8], no_number: &[u8], too_large: &[u8]) -> Number 
                 value: v,
             };
         }
-        Parsed::Bad => message::usage_of(no_number, word),
-        Parsed::Large => message::usage_of(too_large, word),
+        Parsed::Bad => message::usage_of(rt, no_number, word),
+        Parsed::Large => message::usage_of(rt, too_large, word),
     }
     Number {
         good: false,
@@ -29,7 +30,7 @@ fn judged(p: Parsed, word: &[u8], no_number: &[u8], too_large: &[u8]) -> Number 
 }
 
 // The budget; where none is given, the most that a run may have.
-pub fn budget(i: usize) -> Number {
+pub fn budget(rt: &impl System, i: usize) -> Number {
     if i == 0 {
         return Number {
             good: true,
@@ -37,10 +38,11 @@ pub fn budget(i: usize) -> Number {
         };
     }
     let mut bytes = [0u8; args::LONGEST];
-    let n = args::fetch(i, &mut bytes);
+    let n = args::fetch(rt, i, &mut bytes);
     let word = text::part(&bytes, 0, n);
     let no_number = b"--budget is not a decimal number";
     judged(
+        rt,
         numeral::decimal(word),
         word,
         no_number,
@@ -49,12 +51,13 @@ pub fn budget(i: usize) -> Number {
 }
 
 // The value of an answer.
-pub fn value(i: usize) -> Number {
+pub fn value(rt: &impl System, i: usize) -> Number {
     let mut bytes = [0u8; args::LONGEST];
-    let n = args::fetch(i, &mut bytes);
+    let n = args::fetch(rt, i, &mut bytes);
     let word = text::part(&bytes, 0, n);
     let no_number = b"VALUE is not a number, decimal or 0x and hex digits";
     judged(
+        rt,
         numeral::value(word),
         word,
         no_number,
@@ -63,12 +66,13 @@ pub fn value(i: usize) -> Number {
 }
 
 // A word to decode.
-pub fn word(i: usize) -> Number {
+pub fn word(rt: &impl System, i: usize) -> Number {
     let mut bytes = [0u8; args::LONGEST];
-    let n = args::fetch(i, &mut bytes);
+    let n = args::fetch(rt, i, &mut bytes);
     let word = text::part(&bytes, 0, n);
     let no_number = b"WORD is not 1 to 8 hex digits";
     judged(
+        rt,
         numeral::word(word),
         word,
         no_number,

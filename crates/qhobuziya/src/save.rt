@@ -1,9 +1,13 @@
 // Writing files, all or none. Each goes whole into NAME.new beside it; only when all of these are complete are they renamed. A file is
 // named by the place of its argument; 0 is no file.
 use crate::given::Given;
-use crate::{args, command, message, out};
+use crate::system::System;
+use crate::{args, command, message, out, system};
 use refuse::Verdict;
 use session::Session;
+use std::fs::OpenFile;
+use std::io;
+use std::io::{ErrorKind, Write};
 
 const PATH: usize = 4096;
 
@@ -11,138 +15,153 @@ const PATH: usize = 4096;
 const SESSION: usize = 285;
 
 // Puts the path of NAME.new into the buffer and answers its length.
-fn new_path(i: usize, buffer: &mut [u8]) -> usize {
+fn new_path(rt: &impl System, i: usize, buffer: &mut [u8]) -> usize {
     let mut name = [0u8; args::LONGEST];
-    let n = args::fetch(i, &mut name);
+    let n = args::fetch(rt, i, &mut name);
     let at = names::put(buffer, 0, text::part(&name, 0, n));
     names::put(buffer, at, b".new")
 }
 
-// Whether a file may be replaced: one that is not there yet, or a plain one that may be written. A device, a pipe or a terminal has
-// nothing to synchronize, and its name would be lost.
-fn is_replaceable(i: usize) -> bool {
-    if i == 0 {
-        return true;
-    }
-    let mut name = [0u8; args::LONGEST];
-    let n = args::fetch(i, &mut name);
-    let path = text::part(&name, 0, n);
-    let fd = os::open_update(path);
-    if fd < 0 {
-        if os::errno() == libc::ENOENT {
-            return true;
-        }
-        message::kept(path);
-        return false;
-    }
-    let plain = libc::fsync(fd) == 0;
-    libc::close(fd);
+// Whether a file is a plain one: a device, a pipe or a terminal has nothing to synchronize, and its name would be lost.
+fn is_plain(rt: &impl System, file: impl OpenFile + Drop, path: &[u8]) -> bool {
+    let plain = file.sync_all().is_ok();
     if !plain {
-        message::not_plain(path);
+        message::not_plain(rt, path);
     }
     plain
 }
 
+// Whether a file may be replaced: one that is not there yet, or a plain one that may be written.
+fn is_replaceable(rt: &impl System, i: usize) -> bool {
+    if i == 0 {
+        return true;
+    }
+    let mut name = [0u8; args::LONGEST];
+    let n = args::fetch(rt, i, &mut name);
+    let path = text::part(&name, 0, n);
+    match system::open_update(rt, path) {
+        Ok(file) => is_plain(rt, file, path),
+        Err(e) => {
+            if e.kind() == ErrorKind::NotFound {
+                return true;
+            }
+            message::kept(rt, path, e);
+            false
+        }
+    }
+}
+
+// Writes all bytes to the disk.
+fn fill(file: &mut (impl Write + OpenFile), bytes: &[u8]) -> io::Result<()> {
+    file.write_all(bytes)?;
+    file.sync_all()
+}
+
 // Writes all bytes and closes, or says why not.
-fn is_filled(fd: i32, path: &[u8], bytes: &[u8]) -> bool {
-    if !io::write_all(fd, bytes) || libc::fsync(fd) != 0 {
-        message::kept(path);
-        libc::close(fd);
-        return false;
+fn is_filled(
+    rt: &impl System,
+    file: impl Write + OpenFile + Drop,
+    path: &[u8],
+    bytes: &[u8],
+) -> bool {
+    let mut open = file;
+    match fill(&mut open, bytes) {
+        Ok(()) => true,
+        Err(e) => {
+            message::kept(rt, path, e);
+            false
+        }
     }
-    if libc::close(fd) != 0 {
-        message::kept(path);
-        return false;
-    }
-    true
 }
 
 // Makes NAME.new. Where that fails there is none afterwards, but one that was there before.
-fn is_made(i: usize, bytes: &[u8]) -> bool {
+fn is_made(rt: &impl System, i: usize, bytes: &[u8]) -> bool {
     if i == 0 {
         return true;
     }
     let mut buffer = [0u8; PATH];
-    let n = new_path(i, &mut buffer);
+    let n = new_path(rt, i, &mut buffer);
     let path = text::part(&buffer, 0, n);
-    let fd = os::create(path);
-    if fd < 0 {
-        message::kept(path);
-        return false;
+    match system::create(rt, path) {
+        Ok(file) => {
+            if is_filled(rt, file, path, bytes) {
+                return true;
+            }
+            let _ = system::remove(rt, path);
+        }
+        Err(e) => message::kept(rt, path, e),
     }
-    if is_filled(fd, path, bytes) {
-        return true;
-    }
-    os::unlink(path);
     false
 }
 
 // Removes NAME.new.
-fn drop_new(i: usize) {
+fn drop_new(rt: &impl System, i: usize) {
     if i == 0 {
         return;
     }
     let mut buffer = [0u8; PATH];
-    let n = new_path(i, &mut buffer);
-    os::unlink(text::part(&buffer, 0, n));
+    let n = new_path(rt, i, &mut buffer);
+    let _ = system::remove(rt, text::part(&buffer, 0, n));
 }
 
-// NAME.new becomes NAME, or it says why not. `before` is the file that was replaced before it. All names are fetched first: the message
-// needs the system's last error as the rename left it.
-fn is_renamed(i: usize, before: usize) -> bool {
+// NAME.new becomes NAME, or it says why not. `before` is the file that was replaced before it.
+fn is_renamed(rt: &impl System, i: usize, before: usize) -> bool {
     if i == 0 {
         return true;
     }
     let mut buffer = [0u8; PATH];
     let mut name = [0u8; args::LONGEST];
     let mut first = [0u8; args::LONGEST];
-    let m = new_path(i, &mut buffer);
-    let n = args::fetch(i, &mut name);
-    let k = args::fetch(before, &mut first);
-    if os::rename(text::part(&buffer, 0, m), text::part(&name, 0, n)) == 0 {
+    let m = new_path(rt, i, &mut buffer);
+    let n = args::fetch(rt, i, &mut name);
+    let k = args::fetch(rt, before, &mut first);
+    let new = text::part(&buffer, 0, m);
+    let path = text::part(&name, 0, n);
+    match system::rename(rt, new, path) {
+        Ok(()) => true,
+        Err(e) => {
+            if before == 0 {
+                message::kept(rt, path, e);
+            } else {
+                message::half(rt, text::part(&first, 0, k), new, path, e);
+            }
+            false
+        }
+    }
+}
+
+fn are_made(rt: &impl System, first: usize, bytes: &[u8], second: usize, others: &[u8]) -> bool {
+    if !is_made(rt, first, bytes) {
+        return false;
+    }
+    if is_made(rt, second, others) {
         return true;
     }
-    if before == 0 {
-        message::kept(text::part(&name, 0, n));
-    } else {
-        let new = text::part(&buffer, 0, m);
-        message::half(text::part(&first, 0, k), new, text::part(&name, 0, n));
-    }
+    drop_new(rt, first);
     false
 }
 
-fn are_made(first: usize, bytes: &[u8], second: usize, others: &[u8]) -> bool {
-    if !is_made(first, bytes) {
+fn are_renamed(rt: &impl System, first: usize, second: usize) -> bool {
+    if !is_renamed(rt, first, 0) {
+        drop_new(rt, first);
+        drop_new(rt, second);
         return false;
     }
-    if is_made(second, others) {
-        return true;
-    }
-    drop_new(first);
-    false
-}
-
-fn are_renamed(first: usize, second: usize) -> bool {
-    if !is_renamed(first, 0) {
-        drop_new(first);
-        drop_new(second);
-        return false;
-    }
-    if is_renamed(second, first) {
+    if is_renamed(rt, second, first) {
         return true;
     }
     if first == 0 {
-        drop_new(second);
+        drop_new(rt, second);
     }
     false
 }
 
 // Whether both files now have these bytes. If not, it says what happened.
-fn files(first: usize, bytes: &[u8], second: usize, others: &[u8]) -> bool {
-    if !is_replaceable(first) || !is_replaceable(second) {
+fn files(rt: &impl System, first: usize, bytes: &[u8], second: usize, others: &[u8]) -> bool {
+    if !is_replaceable(rt, first) || !is_replaceable(rt, second) {
         return false;
     }
-    are_made(first, bytes, second, others) && are_renamed(first, second)
+    are_made(rt, first, bytes, second, others) && are_renamed(rt, first, second)
 }
 
 // Where the session goes: to --to, or back to where it came from.
@@ -155,7 +174,14 @@ fn target(g: Given, from: usize) -> usize {
 }
 
 // Writes a card, if there is one, and the session that goes with it, unless nothing is to be written. Answers whether all went well.
-pub fn all(g: Given, card: usize, bytes: &[u8], from: usize, session: Session) -> bool {
+pub fn all(
+    rt: &impl System,
+    g: Given,
+    card: usize,
+    bytes: &[u8],
+    from: usize,
+    session: Session,
+) -> bool {
     let options = g.options;
     if options[command::DRY] != 0 {
         return true;
@@ -164,9 +190,15 @@ pub fn all(g: Given, card: usize, bytes: &[u8], from: usize, session: Session) -
     let w = writer::write(session, &mut file);
     let verdict = w.verdict;
     match verdict {
-        Verdict::Accepted => files(card, bytes, target(g, from), text::part(&file, 0, w.len)),
+        Verdict::Accepted => files(
+            rt,
+            card,
+            bytes,
+            target(g, from),
+            text::part(&file, 0, w.len),
+        ),
         Verdict::Refused(refusal) => {
-            out::refused(refusal, session);
+            out::refused(rt, refusal, session);
             false
         }
     }

@@ -1,5 +1,6 @@
 // A run step by step, a line for each: the pc, the word, the instruction, what changed. Each step is a run with budget 1.
 use crate::given::Given;
+use crate::system::System;
 use crate::{decode, load, out, run};
 use cpu::Fetched;
 use effect::Effect;
@@ -13,7 +14,7 @@ use session::{Outcome, Reply, Session, Stop};
 const CHANGES: usize = 54;
 
 // Where a store goes, and how many bytes it takes; 0 is no store.
-#[derive(Drop)]
+#[derive(Clone, Copy)]
 struct Access {
     at: u64,
     bytes: u64,
@@ -86,7 +87,7 @@ fn with_registers(line: Line, old: [u64; 32], new: [u64; 32]) -> Line {
 fn with_bytes(l: Line, at: u64, old: Line, new: Line) -> Line {
     let a = old.bytes;
     let b = new.bytes;
-    if check::same(text::part(&a, 0, old.len), text::part(&b, 0, new.len)) {
+    if text::part(&a, 0, old.len) == text::part(&b, 0, new.len) {
         return l;
     }
     change(l).hex(at, 16).add(b"=").join(new)
@@ -105,7 +106,7 @@ struct Taken {
 }
 
 // One step; an instruction that raises is no step, and has no line.
-fn step(code: &[u8], card: &mut [u8], window: Window, s: Session) -> Taken {
+fn step(rt: &impl System, code: &[u8], card: &mut [u8], window: Window, s: Session) -> Taken {
     let pc = s.pc;
     let old = s.regs;
     let word = word_at(code, pc);
@@ -122,17 +123,23 @@ fn step(code: &[u8], card: &mut [u8], window: Window, s: Session) -> Taken {
     let new = session.regs;
     let line = with_registers(begin(pc, word), old, new);
     Taken {
-        good: out::line(with_bytes(line, a.at, before, bytes_at(card, a))),
+        good: out::line(rt, with_bytes(line, a.at, before, bytes_at(card, a))),
         reply: r,
     }
 }
 
 // The whole run, as one run with that budget would end.
-fn steps(code: &[u8], card: &mut [u8], window: Window, session: Session, budget: u64) -> Taken {
+fn steps(
+    rt: &impl System,
+    code: &[u8],
+    card: &mut [u8],
+    window: Window,
+    session: Session,
+    budget: u64,
+) -> Taken {
     let mut s = session;
-    let mut done: u64 = 0;
-    while done < budget {
-        let t = step(code, card, window, s);
+    for done in 0u64..budget {
+        let t = step(rt, code, card, window, s);
         let r = t.reply;
         let outcome = r.outcome;
         s = r.session;
@@ -146,22 +153,21 @@ fn steps(code: &[u8], card: &mut [u8], window: Window, session: Session, budget:
                 },
             };
         }
-        done += 1;
     }
     Taken {
         good: true,
         reply: Reply {
             outcome: Outcome::Stopped(Stop::Spent),
-            steps: done,
+            steps: budget,
             session: s,
         },
     }
 }
 
-pub fn trace(g: Given) {
+pub fn trace(rt: &impl System, g: Given) {
     let mut code = [0u8; load::MOST];
     let mut card = [0u8; load::MOST];
-    let i = run::load_all(g, &mut code, &mut card);
+    let i = run::load_all(rt, g, &mut code, &mut card);
     if !i.good {
         return;
     }
@@ -169,14 +175,14 @@ pub fn trace(g: Given) {
     let w = run::window(i.card);
     match refuse::of_run(i.code, load::MOST, w, s, i.budget) {
         Verdict::Accepted => {
-            let t = steps(text::part(&code, 0, i.code), &mut card, w, s, i.budget);
+            let t = steps(rt, text::part(&code, 0, i.code), &mut card, w, s, i.budget);
             let r = t.reply;
             if t.good {
-                out::reply(r);
+                out::reply(rt, r);
             }
         }
         Verdict::Refused(refusal) => {
-            out::refused(refusal, s);
+            out::refused(rt, refusal, s);
         }
     }
 }
