@@ -2,12 +2,12 @@
 // apart. A line begins with its letter [0, 1], Q or H, the number of its group [2, 2] and the group's name [5, 12]; lines of one
 // group stand together.
 use crate::{Counts, Held};
-use libc::STDOUT_FILENO;
+use std::io;
 
 // The length of a group's name.
 const NAME: usize = 12;
 
-#[derive(Drop)]
+#[derive(Clone, Copy)]
 pub struct Tally {
     pub name: [u8; NAME],
     pub number: u64,
@@ -44,49 +44,49 @@ fn name_of(line: &[u8]) -> [u8; NAME] {
     name
 }
 
-fn print_cases(c: Counts) {
-    crate::print_number(b" ", c.cases);
-    crate::print_number(b" cases, ", c.differ);
-    io::write_all(STDOUT_FILENO, b" differ\n");
+fn print_cases(rt: &impl Print, c: Counts) -> io::Result<()> {
+    let cases = c.cases;
+    let differ = c.differ;
+    println!(rt; " {cases} cases, {differ} differ")
 }
 
-pub fn print_group(t: Tally) {
+pub fn print_group(rt: &impl Print, t: Tally) -> io::Result<()> {
     let group = t.group;
     if group.cases == 0 {
-        return;
+        return Ok(());
     }
     let name = t.name;
-    io::write_all(STDOUT_FILENO, &name);
-    print_cases(group);
+    rt.write_all(&name)?;
+    print_cases(rt, group)
 }
 
-pub fn print_totals(t: Tally) {
+pub fn print_totals(rt: &impl Print, t: Tally) -> io::Result<()> {
     let emulator = t.emulator;
     let house = t.house;
-    io::write_all(STDOUT_FILENO, b"Q");
-    print_cases(emulator);
-    io::write_all(STDOUT_FILENO, b"H");
-    print_cases(house);
+    print!(rt; "Q")?;
+    print_cases(rt, emulator)?;
+    print!(rt; "H")?;
+    print_cases(rt, house)
 }
 
 // The tally that a line belongs to: the same, or, where its group is another, a new one for the group.
-pub fn for_line(t: Tally, line: &[u8]) -> Tally {
+pub fn for_line(rt: &impl Print, t: Tally, line: &[u8]) -> io::Result<Tally> {
     let number = text::number(line, 2, 2);
     let group = t.group;
     if group.cases != 0 && t.number == number {
-        return t;
+        return Ok(t);
     }
-    print_group(t);
+    print_group(rt, t)?;
     let name = name_of(line);
     let emulator = t.emulator;
     let house = t.house;
-    Tally {
+    Ok(Tally {
         name: name,
         number,
         group: crate::zeros(),
         emulator: emulator,
         house: house,
-    }
+    })
 }
 
 // Counts one line of the group. A letter that is not Q counts as the house's.

@@ -1,4 +1,6 @@
 // Numbers in a line of text. Past the line's end there are zeros, so no caller has to know its length.
+#![tactic(auto)]
+
 ghost use Rattle.std.specs.Prelude.{◌+◌, ◌^◌, ◌<◌, ◌≤◌};
 
 fn digit(b: u8) -> u64
