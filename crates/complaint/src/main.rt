@@ -44,13 +44,7 @@ fn run(number: u64, code: &[u8], arena: &mut [u8]) -> Reply {
 }
 
 // Prints what came of a number, and counts. The address is in r8, and what was read in r5.
-fn report_run(
-    rt: &impl Print,
-    number: u64,
-    r: Reply,
-    arena: &[u8],
-    t: Tally,
-) -> io::Result<Tally> {
+fn report_run(rt: &impl Print, number: u64, r: Reply, arena: &[u8], t: Tally) -> io::Result<Tally> {
     let outcome = r.outcome;
     let session = r.session;
     let regs = session.regs;

@@ -52,13 +52,7 @@ fn read(rt: &impl Print, row: u64, line: &[u8], file: &[u8]) -> io::Result<Held>
 }
 
 // A well-made line has no file that is too long: the test tells the prover so.
-fn read_made(
-    rt: &impl Print,
-    row: u64,
-    line: &[u8],
-    c: Case,
-    room: &mut [u8],
-) -> io::Result<Held> {
+fn read_made(rt: &impl Print, row: u64, line: &[u8], c: Case, room: &mut [u8]) -> io::Result<Held> {
     made::fill_file(room, c);
     let len = made::length(c);
     if len > room.len() {
@@ -85,13 +79,7 @@ fn compare_written(
 }
 
 // The buffer's length is tested as that of a file is.
-fn write(
-    rt: &impl Print,
-    row: u64,
-    line: &[u8],
-    c: Case,
-    buffer: &mut [u8],
-) -> io::Result<Held> {
+fn write(rt: &impl Print, row: u64, line: &[u8], c: Case, buffer: &mut [u8]) -> io::Result<Held> {
     let session = made::whole_session(buffer, c);
     made::fill_buffer(buffer);
     let len = c.place;

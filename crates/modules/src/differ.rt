@@ -8,7 +8,13 @@ pub fn stop(rt: &impl Print, number: u64, line: &[u8], n: Numbers) -> io::Result
     let refused = report::number(rt, number, b"refusal", n.refused, 0)?;
     let ecode = report::value(rt, number, b"ecode", t.ecode, text::number(line, 46, 2))?;
     let subcode = report::value(rt, number, b"subcode", t.subcode, text::number(line, 49, 2))?;
-    let carried = report::value(rt, number, b"carried", t.carried, text::number(line, 52, 16))?;
+    let carried = report::value(
+        rt,
+        number,
+        b"carried",
+        t.carried,
+        text::number(line, 52, 16),
+    )?;
     Ok(refused | ecode | subcode | carried)
 }
 

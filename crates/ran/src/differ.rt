@@ -7,8 +7,20 @@ pub fn stop(rt: &impl Print, number: u64, line: &[u8], n: Numbers) -> io::Result
     let t = n.stop;
     let refused = report::value(rt, number, b"refusal", n.refused, 0)?;
     let ecode = report::value(rt, number, b"ecode", t.ecode, text::number(line, 1099, 2))?;
-    let subcode = report::value(rt, number, b"subcode", t.subcode, text::number(line, 1102, 2))?;
-    let carried = report::value(rt, number, b"carried", t.carried, text::number(line, 1105, 16))?;
+    let subcode = report::value(
+        rt,
+        number,
+        b"subcode",
+        t.subcode,
+        text::number(line, 1102, 2),
+    )?;
+    let carried = report::value(
+        rt,
+        number,
+        b"carried",
+        t.carried,
+        text::number(line, 1105, 16),
+    )?;
     Ok(refused || ecode || subcode || carried)
 }
 

@@ -27,13 +27,7 @@ const CODE: usize = 65536;
 const ARENA: usize = 65602;
 
 // Prints what is not as the line says, and says whether anything is.
-fn compare(
-    rt: &impl Print,
-    number: u64,
-    line: &[u8],
-    r: Reply,
-    arena: &[u8],
-) -> io::Result<bool> {
+fn compare(rt: &impl Print, number: u64, line: &[u8], r: Reply, arena: &[u8]) -> io::Result<bool> {
     let outcome = r.outcome;
     let session = r.session;
     let found = session::tell(outcome);
