@@ -1,10 +1,12 @@
 // The bench program: code bytes on standard input, and 01's lines on standard output.
+#![tactic(auto)]
+
 ghost use Rattle.bench.specs.Bench.{bench_of};
 ghost use Rattle.printed.specs.Page.{Prints, Within};
 
-use libc::{STDIN_FILENO, STDOUT_FILENO};
 use place::{ArenaOffset, Window};
 use session::Session;
+use std::io;
 
 // One word more than code may have: input that fills it is too long, however long it is.
 const INPUT: usize = 65540;
@@ -22,10 +24,10 @@ fn bench(code: &[u8], page: &mut [u8; printed::PAGE]) -> usize
     printed::print(reply, page)
 }
 
-fn main() {
+fn main(rt: HostRuntime) -> io::Result<()> {
     let mut input = [0u8; INPUT];
-    let n = io::read_full(STDIN_FILENO, &mut input);
+    let n = report::read_full(&mut rt.reader(), &mut input)?;
     let mut page = [0u8; printed::PAGE];
     let len = bench(&input[..n], &mut page);
-    io::write_all(STDOUT_FILENO, &page[..len]);
+    rt.write_all(&page[..len])
 }

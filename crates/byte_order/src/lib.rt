@@ -1,4 +1,7 @@
 // Little-endian numbers of 1, 2, 4 and 8 bytes in a list of bytes, each as two halves: what is compiled is one load or one store.
+
+#![tactic(auto)]
+
 ghost use Rattle.std.specs.Prelude.{◌≡◌, ◌+◌, ◌^◌, ◌≤◌, ◌<◌, length};
 ghost use Rattle.byte_order.specs.Bytes.{get_le, put_le};
 

@@ -11,13 +11,16 @@
 //     what the case shows [190, 40]
 // A field that differs is printed by the column where it begins.
 // All else is a pattern that `given` and `report` make, and must not change, but that an accepted answer puts its value in register 4.
+#![tactic(auto)]
+
 mod differ;
 mod given;
 mod tally;
 
-use libc::STDIN_FILENO;
 use report::Held;
 use session::Reply;
+use std::io;
+use std::io::Read;
 
 // The longest code that a case lends, a word more than is allowed, and an arena with room beside the largest window.
 const CODE: usize = 65540;
@@ -36,76 +39,97 @@ fn reply(line: &[u8], code: &[u8], arena: &mut [u8]) -> Reply {
 }
 
 // Prints what is not as the line says, but for the arena, of which it is told.
-fn compare(number: u64, line: &[u8], r: Reply, bytes: bool) -> Held {
+fn compare(rt: &impl Print, number: u64, line: &[u8], r: Reply, bytes: bool) -> io::Result<Held> {
     let outcome = r.outcome;
     let session = r.session;
     let found = session::tell(outcome);
-    let numbers = differ::numbers(number, line, found);
-    let steps = differ::field(number, line, 150, 5, r.steps);
-    let after = differ::session(number, line, session);
-    Held {
+    let numbers = differ::numbers(rt, number, line, found)?;
+    let steps = differ::field(rt, number, line, 150, 5, r.steps)?;
+    let after = differ::session(rt, number, line, session)?;
+    Ok(Held {
         refused: found.refused != 0,
         differs: numbers | steps | after | bytes,
-    }
+    })
 }
 
 // Gives a line's call as much of the arena as the line says.
-fn hold_with(number: u64, line: &[u8], code: &[u8], arena: &mut [u8]) -> Held {
+fn hold_with(
+    rt: &impl Print,
+    number: u64,
+    line: &[u8],
+    code: &[u8],
+    arena: &mut [u8],
+) -> io::Result<Held> {
     let len = given::arena_length(line);
     report::fill(arena, 0);
     if len > arena.len() {
-        return report::no_case(number);
+        return report::no_case(rt, number);
     }
     let r = reply(line, code, &mut arena[0..len]);
-    compare(number, line, r, differ::arena(number, arena))
+    let bytes = differ::arena(rt, number, arena)?;
+    compare(rt, number, line, r, bytes)
 }
 
 // Gives a line's call as much code as the line says.
-fn hold(number: u64, line: &[u8], code: &mut [u8], arena: &mut [u8]) -> Held {
+fn hold(
+    rt: &impl Print,
+    number: u64,
+    line: &[u8],
+    code: &mut [u8],
+    arena: &mut [u8],
+) -> io::Result<Held> {
     let len = given::code_length(line);
     if len > code.len() || !given::well_made(line) {
-        return report::no_case(number);
+        return report::no_case(rt, number);
     }
     given::fill_code(&mut code[0..len], given::word(line));
-    hold_with(number, line, &code[0..len], arena)
+    hold_with(rt, number, line, &code[0..len], arena)
 }
 
 // A line taken: whether there was one, whether it is an answer, and what came of it.
-#[derive(Drop)]
+#[derive(Clone, Copy)]
 struct Taken {
     more: bool,
     answer: bool,
     held: Held,
 }
 
-fn take_line(number: u64, code: &mut [u8; CODE], arena: &mut [u8; ARENA]) -> Taken {
+fn take_line<R: Read>(
+    rt: &impl Print,
+    input: &mut R,
+    number: u64,
+    code: &mut [u8; CODE],
+    arena: &mut [u8; ARENA],
+) -> io::Result<Taken> {
     let mut line = [0u8; given::LINE];
-    let n = io::read_full(STDIN_FILENO, &mut line);
+    let n = report::read_full(input, &mut line)?;
     if n == given::LINE {
-        return Taken {
+        return Ok(Taken {
             more: true,
             answer: given::is_answer(&line),
-            held: hold(number, &line, code, arena),
-        };
+            held: hold(rt, number, &line, code, arena)?,
+        });
     }
     if n != 0 {
-        report::print_cut();
+        report::print_cut(rt)?;
     }
-    Taken {
+    Ok(Taken {
         more: false,
         answer: false,
         held: tally::nothing(),
-    }
+    })
 }
 
 // A proved loop has to end, and nothing says that the input does: so the turns are counted down from a number that no run uses up.
-fn main() {
+fn main(rt: HostRuntime) -> io::Result<()> {
+    let mut input = rt.reader();
     let mut code = [0u8; CODE];
     let mut arena = [0u8; ARENA];
     let mut t = tally::none();
     let mut turns = u64::MAX;
     while turns > 0 {
-        let s = take_line(u64::MAX - turns + 1, &mut code, &mut arena);
+        let number = u64::MAX - turns + 1;
+        let s = take_line(&rt, &mut input, number, &mut code, &mut arena)?;
         if s.more {
             let held = s.held;
             t = tally::count(t, s.answer, held);
@@ -114,5 +138,5 @@ fn main() {
             turns = 0;
         }
     }
-    tally::print_totals(t);
+    tally::print_totals(&rt, t)
 }

@@ -1,5 +1,6 @@
 // Counts, of runs and answers apart.
 use report::{Counts, Held};
+use std::io;
 
 // Of a line that is not there.
 pub fn nothing() -> Held {
@@ -9,7 +10,7 @@ pub fn nothing() -> Held {
     }
 }
 
-#[derive(Drop)]
+#[derive(Clone, Copy)]
 pub struct Tally {
     pub runs: Counts,
     pub answers: Counts,
@@ -38,9 +39,9 @@ pub fn count(t: Tally, answer: bool, held: Held) -> Tally {
     }
 }
 
-pub fn print_totals(t: Tally) {
+pub fn print_totals(rt: &impl Print, t: Tally) -> io::Result<()> {
     let runs = t.runs;
     let answers = t.answers;
-    report::print_counts(b"run ", b" cases, ", runs);
-    report::print_counts(b"answer ", b" cases, ", answers);
+    report::print_counts(rt, b"run ", b" cases, ", runs)?;
+    report::print_counts(rt, b"answer ", b" cases, ", answers)
 }

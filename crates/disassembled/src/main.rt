@@ -4,15 +4,18 @@
 // where L is what the disassembler prints; N a word that it does not know, or that is no instruction of document 01; H one that
 // document 01 says does not exist. Then the word, the numbers of a family and of an operation of it, the mnemonic, and the
 // operands, in the order of `numbered`'s record.
+#![tactic(auto)]
+
 use isa::{Decoded, Instruction};
-use libc::{STDIN_FILENO, STDOUT_FILENO};
 use numbered::DecodedRecord;
+use std::io;
+use std::io::Read;
 
 // The length of a line, with its newline.
 const LINE: usize = 48;
 
 // The mnemonic that is being counted, by its two numbers, and its counts; then those of the whole input.
-#[derive(Drop)]
+#[derive(Clone, Copy)]
 struct Tally {
     family: u64,
     op: u64,
@@ -74,39 +77,34 @@ fn agrees(line: &[u8]) -> bool {
     }
 }
 
-fn print_counts(t: Tally) {
+fn print_counts(rt: &impl Print, t: Tally) -> io::Result<()> {
     if t.words == 0 {
-        return;
+        return Ok(());
     }
-    io::print_decimal(STDOUT_FILENO, t.words);
-    io::write_all(STDOUT_FILENO, b" words, ");
-    io::print_decimal(STDOUT_FILENO, t.differ);
-    io::write_all(STDOUT_FILENO, b" differ\n");
+    let words = t.words;
+    let differ = t.differ;
+    println!(rt; "{words} words, {differ} differ")
 }
 
-fn print_totals(t: Tally) {
-    io::print_decimal(STDOUT_FILENO, t.all);
-    io::write_all(STDOUT_FILENO, b" words: L ");
-    io::print_decimal(STDOUT_FILENO, t.printed);
-    io::write_all(STDOUT_FILENO, b", N ");
-    io::print_decimal(STDOUT_FILENO, t.not_there);
-    io::write_all(STDOUT_FILENO, b", H ");
-    io::print_decimal(STDOUT_FILENO, t.house);
-    io::write_all(STDOUT_FILENO, b", ");
-    io::print_decimal(STDOUT_FILENO, t.all_differ);
-    io::write_all(STDOUT_FILENO, b" differ\n");
+fn print_totals(rt: &impl Print, t: Tally) -> io::Result<()> {
+    let all = t.all;
+    let printed = t.printed;
+    let not_there = t.not_there;
+    let house = t.house;
+    let differ = t.all_differ;
+    println!(rt; "{all} words: L {printed}, N {not_there}, H {house}, {differ} differ")
 }
 
 // The tally that a line of this mnemonic belongs to: the same, or a new one under the mnemonic's name.
-fn tally_for(t: Tally, line: &[u8]) -> Tally {
+fn tally_for(rt: &impl Print, t: Tally, line: &[u8]) -> io::Result<Tally> {
     let family = text::number(line, 11, 2);
     let op = text::number(line, 14, 2);
     if t.words != 0 && t.family == family && t.op == op {
-        return t;
+        return Ok(t);
     }
-    print_counts(t);
-    io::write_all(STDOUT_FILENO, text::part(line, 17, 13));
-    Tally {
+    print_counts(rt, t)?;
+    rt.write_all(text::part(line, 17, 13))?;
+    Ok(Tally {
         family,
         op,
         words: 0,
@@ -116,7 +114,7 @@ fn tally_for(t: Tally, line: &[u8]) -> Tally {
         not_there: t.not_there,
         house: t.house,
         all_differ: t.all_differ,
-    }
+    })
 }
 
 // One more where the condition holds. The counts are smaller than the input's length, so none wraps.
@@ -129,15 +127,15 @@ fn more_if(count: u64, yes: bool) -> u64 {
 }
 
 // Counts one line; a line that differs is printed.
-fn count_line(before: Tally, line: &[u8]) -> Tally {
-    let t = tally_for(before, line);
+fn count_line(rt: &impl Print, before: Tally, line: &[u8]) -> io::Result<Tally> {
+    let t = tally_for(rt, before, line)?;
     let letter = text::byte(line, 0);
     let differs = !agrees(line);
     if differs {
-        io::write_all(STDOUT_FILENO, b"\n");
-        io::write_all(STDOUT_FILENO, line);
+        rt.write_all(b"\n")?;
+        rt.write_all(line)?;
     }
-    Tally {
+    Ok(Tally {
         family: t.family,
         op: t.op,
         words: more_if(t.words, true),
@@ -147,34 +145,35 @@ fn count_line(before: Tally, line: &[u8]) -> Tally {
         not_there: more_if(t.not_there, letter == b'N'),
         house: more_if(t.house, letter == b'H'),
         all_differ: more_if(t.all_differ, differs),
-    }
+    })
 }
 
 // The tally after one more line, and whether there was one.
-#[derive(Drop)]
+#[derive(Clone, Copy)]
 struct Turn {
     more: bool,
     tally: Tally,
 }
 
-fn take_line(t: Tally) -> Turn {
+fn take_line<R: Read>(rt: &impl Print, input: &mut R, t: Tally) -> io::Result<Turn> {
     let mut line = [0u8; LINE];
-    let n = io::read_full(STDIN_FILENO, &mut line);
+    let n = report::read_full(input, &mut line)?;
     if n == LINE {
-        Turn {
+        Ok(Turn {
             more: true,
-            tally: count_line(t, &line),
-        }
+            tally: count_line(rt, t, &line)?,
+        })
     } else {
-        Turn {
+        Ok(Turn {
             more: false,
             tally: t,
-        }
+        })
     }
 }
 
 // A proved loop has to end, and nothing says that the input does: so the turns are counted down from a number that no run uses up.
-fn main() {
+fn main(rt: HostRuntime) -> io::Result<()> {
+    let mut input = rt.reader();
     let mut t = Tally {
         family: 0,
         op: 0,
@@ -188,7 +187,7 @@ fn main() {
     };
     let mut turns = u64::MAX;
     while turns > 0 {
-        let s = take_line(t);
+        let s = take_line(&rt, &mut input, t)?;
         t = s.tally;
         if s.more {
             turns -= 1;
@@ -196,6 +195,6 @@ fn main() {
             turns = 0;
         }
     }
-    print_counts(t);
-    print_totals(t);
+    print_counts(&rt, t)?;
+    print_totals(&rt, t)
 }

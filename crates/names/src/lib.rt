@@ -1,5 +1,7 @@
 // A decoded instruction as text: its mnemonic, then its operands in the manual's order, as `addi.d r4, r0, 7`. A number is the
 // field's own value, and signed where the manual sign-extends it: `beq r4, r5, -3` goes three words back.
+#![tactic(auto)]
+
 mod line;
 mod mnemonics;
 

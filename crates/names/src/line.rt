@@ -1,10 +1,15 @@
 // Text that is put together piece by piece.
-ghost use Rattle.std.specs.Prelude.{◌≤◌};
+ghost use Rattle.std.specs.Prelude.{◌<◌, ◌≤◌};
 
 fn least(a: usize, b: usize) -> usize
     ensures { (result ≤ a) × (result ≤ b) }
 {
     if a < b { a } else { b }
+}
+
+// The digit that stands for a number below 16.
+fn digit(n: u64) -> u8 {
+    text::byte(b"0123456789abcdef", (n % 16) as usize)
 }
 
 // Puts bytes into a buffer from a place on, as far as there is room, and answers where they end.
@@ -66,16 +71,29 @@ impl Line {
     }
 
     pub fn decimal(self, n: u64) -> Line {
-        let mut digits = [0u8; 20];
-        let k = io::decimal(n, &mut digits);
-        self.add(&digits[..k])
+        self.digits(n, 10, 1)
     }
 
-    // In at least so many digits.
+    // In at least so many digits, of which no number has more than 16.
     pub fn hex(self, n: u64, width: usize) -> Line {
-        let mut digits = [0u8; 16];
-        let k = io::hex(n, width, &mut digits);
-        self.add(&digits[..k])
+        self.digits(n, 16, least(width, 16))
+    }
+
+    // The digits of a number in a base: at least one and at least so many, and at most 20, the most that a number has in decimal.
+    fn digits(self, n: u64, base: u64, width: usize) -> Line
+        requires { 0 < base }
+    {
+        let mut digits = [0u8; 20];
+        let mut from: usize = 20;
+        let mut rest = n;
+        for i in 0usize..20 {
+            if i == 0 || i < width || rest != 0 {
+                from = 19 - i;
+                digits[from] = digit(rest % base);
+                rest = rest / base;
+            }
+        }
+        self.add(text::part(&digits, from, 20 - from))
     }
 
     pub fn comma(self) -> Line {

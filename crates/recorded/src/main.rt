@@ -2,15 +2,18 @@
 // many lines there were and how many of them differ. A line is
 //     Q 00 00 add.w        rd rj rk pc field field value
 // where Q is what the emulator left in rd, H what document 01 says; the two numbers are a family and an operation of it.
+#![tactic(auto)]
+
 mod choose;
 
-use libc::{STDIN_FILENO, STDOUT_FILENO};
+use std::io;
+use std::io::Read;
 
 // The length of a line, with its newline.
 const LINE: usize = 124;
 
 // What one line gives a value function.
-#[derive(Drop)]
+#[derive(Clone, Copy)]
 pub struct Given {
     pub op: u64,
     pub rd: u64,
@@ -22,7 +25,7 @@ pub struct Given {
 }
 
 // The mnemonic that is being counted, by its two numbers, and the counts.
-#[derive(Drop)]
+#[derive(Clone, Copy)]
 struct Tally {
     family: u64,
     op: u64,
@@ -61,84 +64,84 @@ fn value(family: u64, g: Given) -> u64 {
     }
 }
 
-fn print_counts(t: Tally) {
+fn print_counts(rt: &impl Print, t: Tally) -> io::Result<()> {
     if t.lines == 0 {
-        return;
+        return Ok(());
     }
-    io::print_decimal(STDOUT_FILENO, t.lines);
-    io::write_all(STDOUT_FILENO, b" lines, ");
-    io::print_decimal(STDOUT_FILENO, t.differ);
-    io::write_all(STDOUT_FILENO, b" differ\n");
+    let lines = t.lines;
+    let differ = t.differ;
+    println!(rt; "{lines} lines, {differ} differ")
 }
 
 // The tally that a line of this mnemonic belongs to: the same, or a new one under the mnemonic's name.
-fn tally_for(t: Tally, line: &[u8], family: u64, op: u64) -> Tally {
+fn tally_for(rt: &impl Print, t: Tally, line: &[u8], family: u64, op: u64) -> io::Result<Tally> {
     if t.lines != 0 {
         if t.family == family {
             if t.op == op {
-                return t;
+                return Ok(t);
             }
         }
     }
-    print_counts(t);
-    io::write_all(STDOUT_FILENO, text::part(line, 8, 13));
-    Tally {
+    print_counts(rt, t)?;
+    rt.write_all(text::part(line, 8, 13))?;
+    Ok(Tally {
         family,
         op,
         lines: 0,
         differ: 0,
-    }
+    })
 }
 
 // Counts one line; a line that differs is printed.
-fn count_line(before: Tally, line: &[u8]) -> Tally {
+fn count_line(rt: &impl Print, before: Tally, line: &[u8]) -> io::Result<Tally> {
     let family = text::number(line, 2, 2);
     let g = read_given(line);
-    let t = tally_for(before, line, family, g.op);
+    let t = tally_for(rt, before, line, family, g.op)?;
     let lines = std::num::wrapping_add_u64(t.lines, 1);
     if value(family, g) == text::number(line, 107, 16) {
-        return Tally {
+        return Ok(Tally {
             family,
             op: t.op,
             lines,
             differ: t.differ,
-        };
+        });
     }
-    io::write_all(STDOUT_FILENO, b"\n");
-    io::write_all(STDOUT_FILENO, line);
-    Tally {
+    rt.write_all(b"\n")?;
+    rt.write_all(line)?;
+    Ok(Tally {
         family,
         op: t.op,
         lines,
         differ: std::num::wrapping_add_u64(t.differ, 1),
-    }
+    })
 }
 
 // The tally after one more line, and whether there was one.
-#[derive(Drop)]
+#[derive(Clone, Copy)]
 struct Turn {
     more: bool,
     tally: Tally,
 }
 
-fn take_line(t: Tally) -> Turn {
+fn take_line<R: Read>(rt: &impl Print, input: &mut R, t: Tally) -> io::Result<Turn> {
     let mut line = [0u8; LINE];
-    let n = io::read_full(STDIN_FILENO, &mut line);
+    let n = report::read_full(input, &mut line)?;
     if n == LINE {
-        Turn {
+        Ok(Turn {
             more: true,
-            tally: count_line(t, &line),
-        }
+            tally: count_line(rt, t, &line)?,
+        })
     } else {
-        Turn {
+        Ok(Turn {
             more: false,
             tally: t,
-        }
+        })
     }
 }
 
 // A proved loop has to end, and nothing says that the input does: so the turns are counted down from a number that no run uses up.
-fn main() {
+fn main(rt: HostRuntime) -> io::Result<()> {
+    let mut input = rt.reader();
     let mut t = Tally {
         family: 0,
         op: 0,
@@ -147,7 +150,7 @@ fn main() {
     };
     let mut turns = u64::MAX;
     while turns > 0 {
-        let s = take_line(t);
+        let s = take_line(&rt, &mut input, t)?;
         t = s.tally;
         if s.more {
             turns -= 1;
@@ -155,5 +158,5 @@ fn main() {
             turns = 0;
         }
     }
-    print_counts(t);
+    print_counts(&rt, t)
 }

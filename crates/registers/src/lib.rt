@@ -1,5 +1,8 @@
 // The 32 registers. A register's number is taken modulo 32, as a field of five bits, so that every number names one and no bound
 // has to be carried.
+
+#![tactic(auto)]
+
 ghost use Rattle.std.specs.Prelude.{◌≡◌};
 ghost use Rattle.registers.specs.Registers.{reg, written};
 

@@ -55,7 +55,7 @@ pub fn well_made(line: &[u8]) -> bool {
 }
 
 // Where in the arena the bytes lie that the line gives, and how many they are.
-#[derive(Drop)]
+#[derive(Clone, Copy)]
 pub struct Part {
     pub from: usize,
     pub n: usize,

@@ -1,4 +1,6 @@
 // The bits of a register: its low bits, its sign, its signed value, and sums that wrap.
+#![tactic(auto)]
+
 ghost use Rattle.std.specs.Prelude.{◌≡◌, ◌<◌, ◌≤◌};
 ghost use Rattle.word.specs.Word.{low, cut, sext, signed, add_d, sub_d, less};
 
