@@ -1,4 +1,7 @@
 // Sums, comparisons and bitwise operations: numbers in, a number out. A field of the word comes as its own value.
+
+#![tactic(auto)]
+
 ghost use Rattle.std.specs.Prelude.{◌≡◌, cond};
 ghost use Rattle.alu.specs.Alu.{alu_of};
 ghost use Rattle.alu.specs.Immediate.{immediate_of};
@@ -6,7 +9,7 @@ ghost use Rattle.alu.specs.Upper.{upper_of};
 ghost use Rattle.alu.specs.Alsl.{alsl_of};
 
 // Two registers.
-#[derive(Drop)]
+#[derive(Clone, Copy)]
 pub enum Alu {
     AddW,
     AddD,
@@ -25,7 +28,7 @@ pub enum Alu {
 }
 
 // A register and an immediate.
-#[derive(Drop)]
+#[derive(Clone, Copy)]
 pub enum Immediate {
     AddiW,
     AddiD,
@@ -39,7 +42,7 @@ pub enum Immediate {
 }
 
 // A 20-bit immediate put high, alone or on top of rd or pc.
-#[derive(Drop)]
+#[derive(Clone, Copy)]
 pub enum Upper {
     Lu12iW,
     Lu32iD,
@@ -50,7 +53,7 @@ pub enum Upper {
 }
 
 // A register shifted, and a register added.
-#[derive(Drop)]
+#[derive(Clone, Copy)]
 pub enum Alsl {
     AlslW,
     AlslWu,

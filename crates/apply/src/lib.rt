@@ -7,26 +7,26 @@ use effect::Effect;
 use fault::Fault;
 use place::{ArenaOffset, GuestAddr, Located, Width, Window};
 
-#[derive(Drop)]
+#[derive(Clone, Copy)]
 pub enum Access {
     At(ArenaOffset),
     Denied(Fault),
 }
 
 // What a turn of the run's loop comes to: the next pc, or a fault.
-#[derive(Drop)]
+#[derive(Clone, Copy)]
 pub enum Turned {
     On(GuestAddr),
     Raised(Fault),
 }
 
-#[derive(Drop)]
+#[derive(Clone, Copy)]
 pub enum End {
     Done,
     Raised(Fault),
 }
 
-#[derive(Drop)]
+#[derive(Clone, Copy)]
 pub struct Stepped {
     pub end: End,
     pub regs: [u64; 32],

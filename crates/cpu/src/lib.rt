@@ -8,7 +8,7 @@ use apply::{End, Stepped, Turned};
 use fault::Fault;
 use place::{FetchPlace, GuestAddr, Window};
 
-#[derive(Drop)]
+#[derive(Clone, Copy)]
 pub enum Fetched {
     Word(u32),
     Bad,

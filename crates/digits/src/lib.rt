@@ -1,10 +1,13 @@
 // One register: sign extension of its lowest bits, runs of bits, groups of bits in the other order.
+
+#![tactic(auto)]
+
 ghost use Rattle.std.specs.Prelude.{◌≡◌, ◌+◌, ◌*◌, ◌<◌, ◌≤◌};
 ghost use Rattle.word.specs.Word.{low};
 ghost use Rattle.digits.specs.Reverse.{reverse, reverse_each};
 ghost use Rattle.digits.specs.Unary.{unary_of};
 
-#[derive(Drop)]
+#[derive(Clone, Copy)]
 pub enum Unary {
     ExtWB,
     ExtWH,

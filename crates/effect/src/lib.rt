@@ -10,7 +10,7 @@ use operate::jump_to;
 use place::{GuestAddr, Width};
 use registers::get;
 
-#[derive(Drop)]
+#[derive(Clone, Copy)]
 pub enum Effect {
     // a register, its value, and the next pc
     Write(u8, u64, GuestAddr),

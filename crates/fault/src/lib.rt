@@ -5,7 +5,7 @@ ghost use Rattle.fault.specs.Fault.{told_of, telling_of};
 use place::GuestAddr;
 
 // Each case holds what 01's table says that the stop carries.
-#[derive(Drop)]
+#[derive(Clone, Copy)]
 pub enum Fault {
     Adef(GuestAddr),
     Adem(GuestAddr),
@@ -16,7 +16,7 @@ pub enum Fault {
     Ine(u32),
 }
 
-#[derive(Drop)]
+#[derive(Clone, Copy)]
 pub struct Telling {
     pub ecode: u64,
     pub subcode: u64,

@@ -1,17 +1,20 @@
 // Bytes and bit fields of registers, moved.
+
+#![tactic(auto)]
+
 ghost use Rattle.std.specs.Prelude.{◌≡◌, ◌<◌};
 ghost use Rattle.fields.specs.Bytepick.{bytepick_of};
 ghost use Rattle.fields.specs.Field.{pick, insert, field_of};
 
 // Bytes of two registers.
-#[derive(Drop)]
+#[derive(Clone, Copy)]
 pub enum Bytepick {
     BytepickW,
     BytepickD,
 }
 
 // A field of a register.
-#[derive(Drop)]
+#[derive(Clone, Copy)]
 pub enum Field {
     BstrinsW,
     BstrinsD,

@@ -3,14 +3,14 @@ use refuse::Verdict;
 use session::{Refusal, Session};
 
 // What a write returns: the file's length, 0 if refused.
-#[derive(Drop)]
+#[derive(Clone, Copy)]
 pub struct Written {
     pub verdict: Verdict,
     pub len: usize,
 }
 
 // What a read returns: the session, fresh if refused, and the offset of what was refused, or the file's length.
-#[derive(Drop)]
+#[derive(Clone, Copy)]
 pub struct Reading {
     pub verdict: Verdict,
     pub session: Session,
@@ -18,14 +18,14 @@ pub struct Reading {
 }
 
 // How far reading has come: the next kind is due at an offset, or something was refused at one.
-#[derive(Drop)]
+#[derive(Clone, Copy)]
 pub enum Progress {
     At(usize),
     Refused(Refusal, usize),
 }
 
 // A reader's cursor: where it is, and the session as far as it is known there.
-#[derive(Drop)]
+#[derive(Clone, Copy)]
 pub struct Cursor {
     pub progress: Progress,
     pub session: Session,

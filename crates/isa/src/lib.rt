@@ -1,4 +1,7 @@
 // Instructions: families, operations and operands.
+
+#![tactic(auto)]
+
 ghost use Rattle.std.specs.Prelude.{◌≡◌, cond};
 ghost use Rattle.isa.specs.declared.Decoded.TheVariants.{Known, Unknown};
 
@@ -11,7 +14,7 @@ use shift::Shift;
 
 // Operands are the word's own numbers: an immediate is not yet extended or scaled. What the format does not have is 0. The three
 // structs have their fields at the same offsets, so that reading one costs the same in every case of an instruction.
-#[derive(Drop)]
+#[derive(Clone, Copy)]
 pub struct Operands {
     pub rd: u8,
     pub rj: u8,
@@ -20,7 +23,7 @@ pub struct Operands {
 }
 
 // Of BSTRINS and BSTRPICK.
-#[derive(Drop)]
+#[derive(Clone, Copy)]
 pub struct FieldOperands {
     pub rd: u8,
     pub rj: u8,
@@ -29,7 +32,7 @@ pub struct FieldOperands {
 }
 
 // Of PRELD and PRELDX.
-#[derive(Drop)]
+#[derive(Clone, Copy)]
 pub struct HintOperands {
     pub hint: u8,
     pub rj: u8,
@@ -37,7 +40,7 @@ pub struct HintOperands {
     pub imm: u32,
 }
 
-#[derive(Drop)]
+#[derive(Clone, Copy)]
 pub enum Branch {
     Beq,
     Bne,
@@ -47,20 +50,20 @@ pub enum Branch {
     Bgeu,
 }
 
-#[derive(Drop)]
+#[derive(Clone, Copy)]
 pub enum ZeroBranch {
     Beqz,
     Bnez,
 }
 
-#[derive(Drop)]
+#[derive(Clone, Copy)]
 pub enum Jump {
     B,
     Bl,
     Jirl,
 }
 
-#[derive(Drop)]
+#[derive(Clone, Copy)]
 pub enum Load {
     LdB,
     LdH,
@@ -71,7 +74,7 @@ pub enum Load {
     LdWu,
 }
 
-#[derive(Drop)]
+#[derive(Clone, Copy)]
 pub enum Store {
     StB,
     StH,
@@ -79,7 +82,7 @@ pub enum Store {
     StD,
 }
 
-#[derive(Drop)]
+#[derive(Clone, Copy)]
 pub enum Pointer {
     LdptrW,
     LdptrD,
@@ -87,37 +90,37 @@ pub enum Pointer {
     StptrD,
 }
 
-#[derive(Drop)]
+#[derive(Clone, Copy)]
 pub enum Preload {
     Preld,
     Preldx,
 }
 
-#[derive(Drop)]
+#[derive(Clone, Copy)]
 pub enum Barrier {
     Dbar,
     Ibar,
 }
 
-#[derive(Drop)]
+#[derive(Clone, Copy)]
 pub enum Trap {
     Syscall,
     Break,
 }
 
-#[derive(Drop)]
+#[derive(Clone, Copy)]
 pub enum Assert {
     AsrtleD,
     AsrtgtD,
 }
 
-#[derive(Drop)]
+#[derive(Clone, Copy)]
 pub enum Config {
     Cpucfg,
 }
 
 // The family, within it the operation, and the operands.
-#[derive(Drop)]
+#[derive(Clone, Copy)]
 pub enum Instruction {
     Alu(Alu, Operands),
     Product(Product, Operands),
@@ -146,7 +149,7 @@ pub enum Instruction {
 }
 
 // The instruction, or that there is none.
-#[derive(Drop)]
+#[derive(Clone, Copy)]
 pub enum Decoded {
     Known(Instruction),
     Unknown,

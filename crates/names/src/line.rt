@@ -36,7 +36,7 @@ fn length(name: &[u8]) -> usize {
 }
 
 // A line of text, longer than any that is made.
-#[derive(Drop)]
+#[derive(Clone, Copy)]
 pub struct Line {
     pub bytes: [u8; 128],
     pub len: usize,

@@ -1,4 +1,7 @@
 // A decoded word as plain numbers: family, operation and operands. For callers that have no enums.
+
+#![tactic(auto)]
+
 mod operations;
 
 ghost use Rattle.std.specs.Prelude.{◌≡◌};
@@ -8,7 +11,7 @@ use isa::{Decoded, FieldOperands, HintOperands, Instruction, Operands};
 
 // The record that crosses to C: numbers only. Family 0 is "no such instruction".
 #[repr(C)]
-#[derive(Drop)]
+#[derive(Clone, Copy)]
 pub struct DecodedRecord {
     pub family: u64,
     pub operation: u64,

@@ -1,5 +1,8 @@
 // What the opcode of a word is, where words of one format have many. A function for each beginning that words have in common: its arms
 // stand in the table's order, which is what the proof of the last arm asks.
+
+#![tactic(auto)]
+
 ghost use Rattle.std.specs.Prelude.{◌≡◌, ◌/◌, ◌^◌};
 ghost use Rattle.opcode.specs.Decode.{decode_of};
 ghost use Rattle.opcode.specs.Found.{three_r, two_r};
@@ -12,7 +15,7 @@ use quotient::Division;
 use shift::Shift;
 
 // The operation, or that the word does not exist.
-#[derive(Drop)]
+#[derive(Clone, Copy)]
 pub enum ThreeR {
     Alu(Alu),
     Product(Product),
@@ -21,14 +24,14 @@ pub enum ThreeR {
     Missing,
 }
 
-#[derive(Drop)]
+#[derive(Clone, Copy)]
 pub enum TwoR {
     Unary(Unary),
     Config(Config),
     Missing,
 }
 
-#[derive(Drop)]
+#[derive(Clone, Copy)]
 pub enum Access {
     Load(Load),
     Store(Store),

@@ -1,4 +1,7 @@
 // The operands of a word, by its format.
+
+#![tactic(auto)]
+
 ghost use Rattle.std.specs.Prelude.{◌≡◌};
 ghost use Rattle.isa.specs.Format.{values, r2, r3, r3i2, r3i3, r2i5, r2i6, r2i12, r2i14, r2i16, r1i20, r1i21, i26, i15, asrt, field_w, field_d, hint_i12, hint_r2};
 ghost use Rattle.isa.specs.Operands.{operands, field_operands, hint_operands};

@@ -1,4 +1,7 @@
 // The parts of a word, by the manual's names. A part that lies in several formats is named by one of them.
+
+#![tactic(auto)]
+
 ghost use Rattle.std.specs.Prelude.{◌≡◌};
 ghost use Rattle.isa.specs.Format.{rd, rj, rk, imm, lsb, msb, values, r3, r3i2, r3i3, r2i5, r2i6, r2i12, r2i14, r2i16, r1i20, r1i21, i26, i15, field_w, field_d};
 

@@ -1,19 +1,22 @@
 // The places of the machine: addresses as the guest sees them, offsets in the arena, offsets in the code. Each is a type of its own,
 // and the only ways from an address to an offset are here.
+
+#![tactic(auto)]
+
 ghost use Rattle.std.specs.Prelude.{◌≡◌, ◌+◌, ◌^◌, ◌≤◌, ◌<◌};
 ghost use Rattle.place.specs.Place.{bytes_of, plus_of, within_of, locate_of, fetch_place_of};
 
-#[derive(Drop)]
+#[derive(Clone, Copy)]
 pub struct GuestAddr(pub u64);
 
-#[derive(Drop)]
+#[derive(Clone, Copy)]
 pub struct ArenaOffset(pub usize);
 
-#[derive(Drop)]
+#[derive(Clone, Copy)]
 pub struct CodeOffset(pub usize);
 
 // The part of the arena that a run may touch.
-#[derive(Drop)]
+#[derive(Clone, Copy)]
 pub struct Window {
     pub start: ArenaOffset,
     pub len: usize,
@@ -35,7 +38,7 @@ impl Window {
 }
 
 // How much an access takes.
-#[derive(Drop)]
+#[derive(Clone, Copy)]
 pub enum Width {
     Byte,
     Half,
@@ -43,13 +46,13 @@ pub enum Width {
     Double,
 }
 
-#[derive(Drop)]
+#[derive(Clone, Copy)]
 pub enum Located {
     At(ArenaOffset),
     Outside,
 }
 
-#[derive(Drop)]
+#[derive(Clone, Copy)]
 pub enum FetchPlace {
     At(CodeOffset),
     Outside,

@@ -1,9 +1,12 @@
 // Products of two registers: their low halves, their high halves, and the whole product of two words.
+
+#![tactic(auto)]
+
 ghost use Rattle.std.specs.Prelude.{◌≡◌, ◌*◌, pos, neg_ℤ, nat_abs};
 ghost use Rattle.word.specs.Word.{signed};
 ghost use Rattle.product.specs.Product.{wide, high, signed_product, mulh_d, product_of};
 
-#[derive(Drop)]
+#[derive(Clone, Copy)]
 pub enum Product {
     MulW,
     MulD,
@@ -16,7 +19,7 @@ pub enum Product {
 }
 
 // A product of 128 bits.
-#[derive(Drop)]
+#[derive(Clone, Copy)]
 pub struct Wide {
     pub hi: u64,
     pub lo: u64,

@@ -1,8 +1,11 @@
 // Quotients and remainders of two registers. No divisor raises anything: a zero divisor gives 0 and 0.
+
+#![tactic(auto)]
+
 ghost use Rattle.std.specs.Prelude.{◌≡◌, pos};
 ghost use Rattle.quotient.specs.Quotient.{unsigned, nothing, divided_d, divided_w, division_of};
 
-#[derive(Drop)]
+#[derive(Clone, Copy)]
 pub enum Division {
     DivW,
     ModW,
@@ -15,7 +18,7 @@ pub enum Division {
 }
 
 // Both answers of a division, as registers.
-#[derive(Drop)]
+#[derive(Clone, Copy)]
 pub struct Divided {
     pub quotient: u64,
     pub remainder: u64,

@@ -9,7 +9,7 @@ use session::{Note, Reply, Session};
 
 // A session. Where `noted` is 0 there is no note, and its two words mean nothing.
 #[repr(C)]
-#[derive(Drop)]
+#[derive(Clone, Copy)]
 pub struct SessionRecord {
     pub regs: [u64; 32],
     pub pc: u64,
@@ -21,7 +21,7 @@ pub struct SessionRecord {
 
 // What a run and an answer return, by 01's numbers.
 #[repr(C)]
-#[derive(Drop)]
+#[derive(Clone, Copy)]
 pub struct ReplyRecord {
     pub session: SessionRecord,
     pub refused: u64,
@@ -32,14 +32,14 @@ pub struct ReplyRecord {
 }
 
 #[repr(C)]
-#[derive(Drop)]
+#[derive(Clone, Copy)]
 pub struct WrittenRecord {
     pub refused: u64,
     pub length: usize,
 }
 
 #[repr(C)]
-#[derive(Drop)]
+#[derive(Clone, Copy)]
 pub struct ReadingRecord {
     pub session: SessionRecord,
     pub refused: u64,

@@ -6,7 +6,7 @@ use place::{CodeOffset, Window};
 use session::{Refusal, Session};
 
 // What the tests of a call come to.
-#[derive(Drop)]
+#[derive(Clone, Copy)]
 pub enum Verdict {
     Accepted,
     Refused(Refusal),

@@ -8,13 +8,13 @@ use fault::{Fault, Telling};
 use place::GuestAddr;
 
 // The support note: absent and then without content, or the 16 bytes of two numbers.
-#[derive(Drop)]
+#[derive(Clone, Copy)]
 pub enum Note {
     Absent,
     Present(u64, u64),
 }
 
-#[derive(Drop)]
+#[derive(Clone, Copy)]
 pub struct Session {
     pub regs: [u64; 32],
     pub pc: GuestAddr,
@@ -53,14 +53,14 @@ impl Session {
 }
 
 // Why a run stopped. A step cannot raise "spent": it is no fault.
-#[derive(Drop)]
+#[derive(Clone, Copy)]
 pub enum Stop {
     Raised(Fault),
     Spent,
 }
 
 // Why a call was refused, in the order of 01's numbers.
-#[derive(Drop)]
+#[derive(Clone, Copy)]
 pub enum Refusal {
     CodeLength,
     WindowLength,
@@ -75,7 +75,7 @@ pub enum Refusal {
     BufferLength,
 }
 
-#[derive(Drop)]
+#[derive(Clone, Copy)]
 pub enum Outcome {
     Stopped(Stop),
     Answered,
@@ -83,7 +83,7 @@ pub enum Outcome {
 }
 
 // What a run and an answer return.
-#[derive(Drop)]
+#[derive(Clone, Copy)]
 pub struct Reply {
     pub outcome: Outcome,
     pub steps: u64,
@@ -91,7 +91,7 @@ pub struct Reply {
 }
 
 // An outcome by 01's numbers: 0 is "not refused", and a stop of 0, 0, 0 is "none, nothing".
-#[derive(Drop)]
+#[derive(Clone, Copy)]
 pub struct Numbers {
     pub refused: u64,
     pub stop: Telling,

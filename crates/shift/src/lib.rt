@@ -1,9 +1,12 @@
 // Shifts of a register by a register or by a field: the amount is reduced inside.
+
+#![tactic(auto)]
+
 ghost use Rattle.std.specs.Prelude.{◌≡◌, ◌<◌};
 ghost use Rattle.word.specs.Word.{low};
 ghost use Rattle.shift.specs.Shift.{rotr, shift_of};
 
-#[derive(Drop)]
+#[derive(Clone, Copy)]
 pub enum Shift {
     SllW,
     SrlW,
