@@ -9,7 +9,7 @@ say() { printf '%s: %s\n' "$(basename "$0")" "$*" >&2; }
 
 rt=$(command -v rt) || { say "rt, of Rattle's kit, is not on the path"; exit 2; }
 kit=${RATTLE_HOME:-$(dirname "$(dirname "$(readlink -f "$rt")")")}
-tools=$kit/on/$machine/toolchain
+tools=$kit/toolchain
 
 # Installs Debian's packages where a file or a command that they bring is missing: root does it, anybody else is told how.
 need() { # WHAT PACKAGE..
@@ -25,17 +25,19 @@ need() { # WHAT PACKAGE..
     { apt-get update && apt-get install -y --no-install-recommends "$@"; } >/dev/null 2>&1 || { say "$* could not be installed"; exit 2; }
 }
 
-# The archive of a crate, from the proved code.
-archive() { # NAME RT
+# The archive libNAME.a, from the proved code: the crate NAME_c exports what the library NAME has.
+archive() { # NAME
     say "proving $1 and building its archive: seconds, or some minutes where nothing is proved yet"
-    said=$(cd "$root" && "$2" staticlib "$1" 2>&1) || { printf '%s\n' "$said" >&2; exit 1; }
+    said=$(cd "$root/crates/$1_c" && "$rt" lib 2>&1) || { printf '%s\n' "$said" >&2; exit 1; }
+    mkdir -p "$root/target/staticlib"
+    cp "$root/crates/$1_c/out/lib$1_c.a" "$root/target/staticlib/lib$1.a"
 }
 
 # For the archives as they ship, which are for x86-64. Another processor builds with cross compilers and runs under Debian's
 # qemu: the kit's own ends at the start of a program in Rust.
 for_x86_64() {
-    archive qhobuziya_host "$rt"
-    archive qhobuziya_decode "$rt"
+    archive qhobuziya_host
+    archive qhobuziya_decode
     export QHOBUZIYA_ARCHIVES="$root/target/staticlib" CARGO_TARGET_DIR="$root/target/hosts/x86_64"
     if [ "$machine" = x86_64 ]; then
         own_compilers
@@ -66,7 +68,7 @@ for_native() {
     fi
     keeping_kit
     for name in qhobuziya_host qhobuziya_decode; do
-        RATTLE_HOME="$kept/kit" archive "$name" "$rt"
+        RATTLE_HOME="$kept/kit" archive "$name"
         retarget "$name"
     done
     export QHOBUZIYA_ARCHIVES="$kept" CARGO_TARGET_DIR="$root/target/hosts/native"
@@ -77,19 +79,19 @@ for_native() {
 keeping_kit() {
     kept=$root/target/hosts/kept
     rm -rf "$kept"
-    mkdir -p "$kept/kit/on/$machine/toolchain/bin"
-    for part in '' "on/$machine/" "on/$machine/toolchain/" "on/$machine/toolchain/bin/"; do
+    mkdir -p "$kept/kit/toolchain/bin"
+    for part in '' toolchain/ toolchain/bin/; do
         for file in "$kit/$part"*; do
             [ -e "$kept/kit/$part$(basename "$file")" ] || ln -s "$file" "$kept/kit/$part$(basename "$file")"
         done
     done
-    rm "$kept/kit/on/$machine/toolchain/bin/clang"
-    cat >"$kept/kit/on/$machine/toolchain/bin/clang" <<END
+    rm "$kept/kit/toolchain/bin/clang"
+    cat >"$kept/kit/toolchain/bin/clang" <<END
 #!/bin/sh
 cp module.bc "$kept/module.bc"
 exec "$tools/bin/clang" "\$@"
 END
-    chmod +x "$kept/kit/on/$machine/toolchain/bin/clang"
+    chmod +x "$kept/kit/toolchain/bin/clang"
 }
 
 # Compiles the module that was kept, with the kit's compiler and its options, for this processor. Two things in it are the C convention

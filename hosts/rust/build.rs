@@ -1,4 +1,4 @@
-//! Finds the two archives: in the folder that QHOBUZIYA_ARCHIVES names, or where `rt staticlib` puts them.
+//! Finds the two archives: in the folder that QHOBUZIYA_ARCHIVES names, or where hosts/archives puts them.
 
 use std::path::{Path, PathBuf};
 
@@ -18,7 +18,7 @@ fn link(folder: &Path, name: &str) {
     let archive = folder.join(format!("lib{name}.a"));
     if !archive.is_file() {
         eprintln!("{} is not there.", archive.display());
-        eprintln!("run `rt staticlib qhobuziya_host` and `rt staticlib qhobuziya_decode`, or set QHOBUZIYA_ARCHIVES to their folder.");
+        eprintln!("run hosts/archives, or set QHOBUZIYA_ARCHIVES to their folder.");
         std::process::exit(1);
     }
     println!("cargo:rerun-if-changed={}", archive.display());

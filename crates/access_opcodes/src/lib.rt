@@ -1,4 +1,7 @@
 // What the opcode of an access is. The arms of each function stand in the table's order, which is what the proof of the last arm asks.
+
+#![tactic(auto)]
+
 ghost use Rattle.std.specs.Prelude.{◌≡◌, ◌/◌, ◌^◌};
 ghost use Rattle.opcode.specs.Decode.{decode_of};
 ghost use Rattle.opcode.specs.Found.{access, indexed_access};

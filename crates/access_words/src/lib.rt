@@ -1,5 +1,8 @@
 // Words of LDPTR and STPTR, of an index in a register, and of barriers. A function for each beginning that they have in common, with its
 // arms in the table's order.
+
+#![tactic(auto)]
+
 ghost use Rattle.std.specs.Prelude.{◌≡◌, ◌/◌, ◌^◌};
 ghost use Rattle.opcode.specs.Decode.{decode_of};
 ghost use Rattle.access_words.specs.Found.{pointer_at};

@@ -1,4 +1,7 @@
 // An access with its operands.
+
+#![tactic(auto)]
+
 ghost use Rattle.std.specs.Prelude.{◌≡◌};
 ghost use Rattle.opcode.specs.Found.{access, indexed_access};
 

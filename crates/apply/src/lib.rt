@@ -1,4 +1,7 @@
 // What an effect does to registers, pc and arena. Nothing else of a step sees the arena.
+
+#![tactic(auto)]
+
 ghost use Rattle.std.specs.Prelude.{◌≡◌, ◌+◌, ◌^◌, ◌≤◌, ◌<◌, length};
 ghost use Rattle.apply.specs.Machine.{state};
 ghost use Rattle.apply.specs.Apply.{access_of, apply_of, Meets};

@@ -1,5 +1,8 @@
 // The instruction of a word that begins with six zeros: arithmetic, but for ADDU16I.D and the 20-bit immediates, and the traps, ASRT and
 // CPUCFG. A function for each beginning that words have in common, with its arms in the table's order.
+
+#![tactic(auto)]
+
 ghost use Rattle.std.specs.Prelude.{◌≡◌, ◌/◌, ◌^◌};
 ghost use Rattle.opcode.specs.Decode.{decode_of};
 ghost use Rattle.arithmetic.specs.Found.{immediate12, double_field};

@@ -1,4 +1,7 @@
 // What an instruction asks for, of every family. No arena and no window is in sight.
+
+#![tactic(auto)]
+
 ghost use Rattle.std.specs.Prelude.{◌≡◌};
 ghost use Rattle.effect.specs.Effect.{effect_of};
 

@@ -1,4 +1,7 @@
 // What a word asks for: the effect of its instruction, or INE where it is none.
+
+#![tactic(auto)]
+
 ghost use Rattle.std.specs.Prelude.{◌≡◌};
 ghost use Rattle.opcode.specs.Decode.{decode_of};
 ghost use Rattle.asked.specs.Asked.{asked_of};

@@ -1,4 +1,7 @@
 // Shifts, bits and CPUCFG on their operands: the registers and fields that each family takes, and what it makes of them.
+
+#![tactic(auto)]
+
 ghost use Rattle.std.specs.Prelude.{◌≡◌};
 ghost use Rattle.shift.specs.Shift.{shift_of};
 ghost use Rattle.digits.specs.Unary.{unary_of};

@@ -1,4 +1,7 @@
 // What branches and assertions test, where offsets lead, and the configuration word.
+
+#![tactic(auto)]
+
 ghost use Rattle.std.specs.Prelude.{◌≡◌, ◌<◌, ◌≤◌};
 ghost use Rattle.control.specs.Control.{taken_of, zero_taken_of, words_on_of, bytes_on_of, passes_of, config_of};
 

@@ -1,4 +1,7 @@
 // One step of the machine: fetch, decode, ask, apply.
+
+#![tactic(auto)]
+
 ghost use Rattle.std.specs.Prelude.{◌≡◌, ◌+◌, ◌≤◌, length};
 ghost use Rattle.apply.specs.Machine.{ground_on, state};
 ghost use Rattle.apply.specs.Apply.{Meets};

@@ -1,4 +1,7 @@
 // The instruction that a word is: a function for each beginning that words have in common, with its arms in the table's order.
+
+#![tactic(auto)]
+
 ghost use Rattle.std.specs.Prelude.{◌≡◌};
 ghost use Rattle.opcode.specs.Decode.{Decodes};
 ghost use Rattle.decoder.specs.Found.{upper_pair, branch_on, zero_branch_on, jump_by, jirl, addu16i_d};

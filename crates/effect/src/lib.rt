@@ -1,5 +1,8 @@
 // What an instruction asks for: a pure function of the instruction, the registers and the pc. No arena and no window is in sight. Here are
 // the families that ask for different things; `ask` has them all.
+
+#![tactic(auto)]
+
 ghost use Rattle.std.specs.Prelude.{◌≡◌};
 ghost use Rattle.isa.specs.declared.Instruction.{Instruction};
 ghost use Rattle.effect.specs.Effect.{trap_of, effect_of};

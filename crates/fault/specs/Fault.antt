@@ -1,9 +1,8 @@
 -- 01, "Stops": Ecode, subcode and the carried value of each fault.
-use Rattle.std.specs.Prelude.{ℕ, ◌≡◌, refl, Bool, true, cond, ◌&&◌, List, [], ◌∷◌, eqb}
+use Rattle.std.specs.Prelude.{ℕ, Bool, cond, ◌&&◌, List, [], ◌∷◌, eqb}
 use Rattle.fault.specs.declared.Fault.{Fault}
 use Rattle.fault.specs.declared.Fault.TheVariants.{Adef, Adem, Ale, Bce, Syscall, Break, Ine}
 use Rattle.fault.specs.declared.Telling.{Telling}
-use Rattle.fault.specs.Differ.{all_differ}
 
 abbrev pub told_of : ℕ → ℕ → ℕ → Telling
 told_of e s v = record { ecode = e; subcode = s; carried = v }
@@ -25,9 +24,6 @@ kinds = Adef (record { 0 = 0 }) ∷ Adem (record { 0 = 0 }) ∷ Ale (record { 0 
 abbrev pub same_kind : Telling → Telling → Bool
 same_kind s t = eqb s.ecode t.ecode && eqb s.subcode t.subcode
 
-pub kinds_differ : all_differ (λ f g. same_kind (telling_of f) (telling_of g)) kinds ≡ true
-kinds_differ = refl
-
 -- From the numbers back to the fault: Ecode and subcode alone say which kind it is. So two faults with the same numbers are the same
 -- fault, whatever they carry; a kind that is added without numbers of its own is refused here.
 abbrev pub untold : Telling → Fault
@@ -37,12 +33,3 @@ untold t =
     (cond (eqb t.ecode 10) Bce
     (cond (eqb t.ecode 11) (Syscall t.carried)
     (cond (eqb t.ecode 12) (Break t.carried) (Ine t.carried)))))
-
-pub told_back : (f : Fault) → untold (telling_of f) ≡ f
-told_back (Adef pc) = refl
-told_back (Adem a) = refl
-told_back (Ale a) = refl
-told_back Bce = refl
-told_back (Syscall c) = refl
-told_back (Break c) = refl
-told_back (Ine w) = refl

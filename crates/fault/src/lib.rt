@@ -1,4 +1,7 @@
 // What an instruction can raise, and 01's numbers for it.
+
+#![tactic(auto)]
+
 ghost use Rattle.std.specs.Prelude.{◌≡◌};
 ghost use Rattle.fault.specs.Fault.{told_of, telling_of};
 

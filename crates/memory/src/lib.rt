@@ -1,4 +1,7 @@
 // What loads read and stores write, at an offset in the arena.
+
+#![tactic(auto)]
+
 ghost use Rattle.std.specs.Prelude.{◌≡◌, ◌+◌, ◌≤◌, length};
 ghost use Rattle.place.specs.Place.{bytes_of};
 ghost use Rattle.memory.specs.Memory.{load_width_of, loaded_of, store_width_of, stored_of};

@@ -1,4 +1,7 @@
 // Each family of arithmetic on its operands: the registers and fields that it takes, and what it makes of them.
+
+#![tactic(auto)]
+
 ghost use Rattle.std.specs.Prelude.{◌≡◌};
 ghost use Rattle.alu.specs.Alu.{alu_of};
 ghost use Rattle.alu.specs.Immediate.{immediate_of};

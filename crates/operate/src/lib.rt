@@ -1,4 +1,7 @@
 // Where branches, jumps and accesses lead, from their operands.
+
+#![tactic(auto)]
+
 ghost use Rattle.std.specs.Prelude.{◌≡◌};
 ghost use Rattle.operate.specs.Operate.{next_of, branch_to, zero_branch_to, jump_to, at_offset, at_index, at_pointer};
 

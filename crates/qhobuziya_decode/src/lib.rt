@@ -4,8 +4,7 @@ ghost use Rattle.qhobuziya_decode.specs.Exports.{DecodesRecord};
 
 use numbered::DecodedRecord;
 
-#[unsafe(no_mangle)]
-pub extern "C" fn qhobuziya_decode(word: u32) -> DecodedRecord
+pub fn qhobuziya_decode(word: u32) -> DecodedRecord
     ensures { DecodesRecord word result }
 {
     let d = decoder::decode(word);

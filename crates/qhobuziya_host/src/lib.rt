@@ -6,8 +6,7 @@ ghost use Rattle.qhobuziya_host.specs.Exports.{RunsRecord, AnswersRecord, Writes
 use place::{ArenaOffset, Window};
 use records::{ReadingRecord, ReplyRecord, SessionRecord, WrittenRecord};
 
-#[unsafe(no_mangle)]
-pub extern "C" fn qhobuziya_run(
+pub fn qhobuziya_run(
     code: &[u8],
     arena: &mut [u8],
     offset: usize,
@@ -26,8 +25,7 @@ pub extern "C" fn qhobuziya_run(
     records::replied(came, reply)
 }
 
-#[unsafe(no_mangle)]
-pub extern "C" fn qhobuziya_answer(code: &[u8], came: SessionRecord, value: u64) -> ReplyRecord
+pub fn qhobuziya_answer(code: &[u8], came: SessionRecord, value: u64) -> ReplyRecord
     ensures { AnswersRecord code.now came value result }
 {
     let session = records::unpacked(came);
@@ -35,8 +33,7 @@ pub extern "C" fn qhobuziya_answer(code: &[u8], came: SessionRecord, value: u64)
     records::replied(came, reply)
 }
 
-#[unsafe(no_mangle)]
-pub extern "C" fn qhobuziya_write(came: SessionRecord, buffer: &mut [u8]) -> WrittenRecord
+pub fn qhobuziya_write(came: SessionRecord, buffer: &mut [u8]) -> WrittenRecord
     ensures { WritesRecord came buffer.old result buffer.new }
 {
     let session = records::unpacked(came);
@@ -44,8 +41,7 @@ pub extern "C" fn qhobuziya_write(came: SessionRecord, buffer: &mut [u8]) -> Wri
     records::written(written)
 }
 
-#[unsafe(no_mangle)]
-pub extern "C" fn qhobuziya_read(file: &[u8]) -> ReadingRecord
+pub fn qhobuziya_read(file: &[u8]) -> ReadingRecord
     ensures { ReadsRecord file.now result }
 {
     let reading = reader::read(file);

@@ -1,5 +1,8 @@
 // Words that begin with ten zeros: no immediate but two or three bits. A function for each beginning that they have in common, with its
 // arms in the table's order.
+
+#![tactic(auto)]
+
 ghost use Rattle.std.specs.Prelude.{◌≡◌, ◌/◌, ◌^◌};
 ghost use Rattle.opcode.specs.Decode.{decode_of};
 ghost use Rattle.opcode.specs.Found.{three_r};

@@ -1,4 +1,7 @@
 // Words that begin with nine zeros and a one: shifts by an immediate, and bit fields of a word.
+
+#![tactic(auto)]
+
 ghost use Rattle.std.specs.Prelude.{◌≡◌, ◌/◌, ◌^◌};
 ghost use Rattle.opcode.specs.Decode.{decode_of};
 ghost use Rattle.short_immediates.specs.Found.{word_shift, double_shift};

@@ -1,4 +1,7 @@
 // Words of one register in and one out, of ASRT, and of the traps: their first fourteen bits are 0 or 10.
+
+#![tactic(auto)]
+
 ghost use Rattle.std.specs.Prelude.{◌≡◌, ◌/◌, ◌^◌};
 ghost use Rattle.opcode.specs.Decode.{decode_of};
 ghost use Rattle.opcode.specs.Found.{two_r};
