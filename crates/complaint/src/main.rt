@@ -4,14 +4,16 @@
 // Seven accounts stand side by side (accounts.rt). The module (module.rt) turns the account number from the link into an address
 // and reads there; the window is always that of account 2. For each number this prints what the module got, and what the old rule
 // would have let it read. The input has a number a line, 16 hexadecimal digits.
+#![tactic(auto)]
+
 mod accounts;
 mod line;
 mod module;
 mod seen;
 
-use libc::{STDIN_FILENO, STDOUT_FILENO};
 use place::GuestAddr;
 use session::{Note, Reply, Session};
+use std::io;
 
 // The length of a line, with its newline.
 const LINE: usize = 17;
@@ -42,29 +44,26 @@ fn run(number: u64, code: &[u8], arena: &mut [u8]) -> Reply {
 }
 
 // Prints what came of a number, and counts. The address is in r8, and what was read in r5.
-fn report_run(number: u64, r: Reply, arena: &[u8], t: Tally) -> Tally {
+fn report_run(rt: &impl Print, number: u64, r: Reply, arena: &[u8], t: Tally) -> io::Result<Tally> {
     let outcome = r.outcome;
     let session = r.session;
     let regs = session.regs;
     let found = session::tell(outcome);
     let stop = found.stop;
-    line::print_got(number, regs[8], stop, regs[5]);
-    line::print_old(seen::by_old_rule(arena, regs[8]));
-    Tally {
+    line::print_got(rt, number, regs[8], stop, regs[5])?;
+    line::print_old(rt, seen::by_old_rule(arena, regs[8]))?;
+    Ok(Tally {
         runs: report::more_if(t.runs, true),
         changed: std::num::wrapping_add_u64(t.changed, accounts::changed(arena)),
         foreign: std::num::wrapping_add_u64(t.foreign, seen::foreign_registers(arena, &regs)),
-    }
+    })
 }
 
-fn print_totals(t: Tally) {
-    report::print_number(b"", t.runs);
-    report::print_number(b" runs: ", t.changed);
-    report::print_number(b" bytes of the arena changed, ", t.foreign);
-    io::write_all(
-        STDOUT_FILENO,
-        b" registers held bytes from outside the window\n",
-    );
+fn print_totals(rt: &impl Print, t: Tally) -> io::Result<()> {
+    report::print_number(rt, b"", t.runs)?;
+    report::print_number(rt, b" runs: ", t.changed)?;
+    report::print_number(rt, b" bytes of the arena changed, ", t.foreign)?;
+    println!(rt; " registers held bytes from outside the window")
 }
 
 // The tally after one more line, and whether there was one.
@@ -74,46 +73,56 @@ struct Turn {
     tally: Tally,
 }
 
-fn take_line(t: Tally, code: &[u8; module::LEN], arena: &mut [u8; accounts::LEN]) -> Turn {
+fn take_line(
+    rt: &(impl Input + Print),
+    t: Tally,
+    code: &[u8; module::LEN],
+    arena: &mut [u8; accounts::LEN],
+) -> io::Result<Turn> {
     let mut digits = [0u8; LINE];
-    let n = io::read_full(STDIN_FILENO, &mut digits);
+    let n = report::read_full(&mut rt.reader(), &mut digits)?;
     if n == LINE {
         let number = text::number(&digits, 0, 16);
         let r = run(number, code, arena);
-        return Turn {
+        return Ok(Turn {
             more: true,
-            tally: report_run(number, r, arena, t),
-        };
+            tally: report_run(rt, number, r, arena, t)?,
+        });
     }
     if n != 0 {
-        report::print_cut();
+        report::print_cut(rt)?;
     }
-    Turn {
+    Ok(Turn {
         more: false,
         tally: t,
-    }
+    })
 }
 
-// A proved loop has to end, and nothing says that the input does: so the turns are counted down from a number that no run uses up.
-fn take_all(code: &[u8; module::LEN], arena: &mut [u8; accounts::LEN]) -> Tally {
+// A proved loop has to end, and nothing says that the input does: so the turns are counted up to a number that no run reaches.
+fn take_all(
+    rt: &(impl Input + Print),
+    code: &[u8; module::LEN],
+    arena: &mut [u8; accounts::LEN],
+) -> io::Result<Tally> {
     let mut t = Tally {
         runs: 0,
         changed: 0,
         foreign: 0,
     };
-    let mut turns = u64::MAX;
-    while turns > 0 {
-        let s = take_line(t, code, arena);
+    for _ in 0..u64::MAX {
+        let s = take_line(rt, t, code, arena)?;
         t = s.tally;
-        turns = if s.more { turns - 1 } else { 0 };
+        if !s.more {
+            break;
+        }
     }
-    t
+    Ok(t)
 }
 
-fn main() {
+fn main(rt: HostRuntime) -> io::Result<()> {
     let code = module::code();
     let mut arena = [0u8; accounts::LEN];
     accounts::fill(&mut arena);
-    let t = take_all(&code, &mut arena);
-    print_totals(t);
+    let t = take_all(&rt, &code, &mut arena)?;
+    print_totals(&rt, t)
 }

@@ -7,7 +7,7 @@ use session::{Note, Session};
 const FILLER: u8 = 238;
 
 // One case of a line: its form and its numbers.
-#[derive(Drop)]
+#[derive(Clone, Copy)]
 pub struct Case {
     pub note: bool,
     pub place: usize,

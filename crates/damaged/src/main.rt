@@ -16,6 +16,8 @@
 // The kinds of a whole file stand at 0, 9, 258, 267 and, with a note, 284. Every other byte i of it is what `report::pattern` gives:
 // (i % 251 * 31 + 7) % 251 + 1.
 // What differs is printed with its line's number, `row` below, and then the place, count and value of the case.
+#![tactic(auto)]
+
 mod differ;
 mod given;
 mod made;
@@ -23,10 +25,10 @@ mod tally;
 
 use file::Written;
 use given::ROOM;
-use libc::STDIN_FILENO;
 use made::Case;
 use report::{Counts, Held};
 use session::Session;
+use std::io;
 use tally::Tally;
 
 fn wanted_session(line: &[u8], file: &[u8]) -> Session {
@@ -36,66 +38,79 @@ fn wanted_session(line: &[u8], file: &[u8]) -> Session {
     made::nothing()
 }
 
-fn read(row: u64, line: &[u8], file: &[u8]) -> Held {
+fn read(rt: &impl Print, row: u64, line: &[u8], file: &[u8]) -> io::Result<Held> {
     let r = reader::read(file);
     let verdict = r.verdict;
     let found = r.session;
     let number = refuse::number(verdict);
-    let numbers = differ::numbers(row, line, b"offset", number, r.offset);
-    let session = differ::session(row, found, wanted_session(line, file));
-    Held {
+    let numbers = differ::numbers(rt, row, line, b"offset", number, r.offset)?;
+    let session = differ::session(rt, row, found, wanted_session(line, file))?;
+    Ok(Held {
         refused: number != 0,
         differs: numbers | session,
-    }
+    })
 }
 
 // A well-made line has no file that is too long: the test tells the prover so.
-fn read_made(row: u64, line: &[u8], c: Case, room: &mut [u8]) -> Held {
+fn read_made(rt: &impl Print, row: u64, line: &[u8], c: Case, room: &mut [u8]) -> io::Result<Held> {
     made::fill_file(room, c);
     let len = made::length(c);
     if len > room.len() {
-        return report::no_case(row);
+        return report::no_case(rt, row);
     }
-    read(row, line, &room[0..len])
+    read(rt, row, line, &room[0..len])
 }
 
-fn compare_written(row: u64, line: &[u8], w: Written, buffer: &[u8]) -> Held {
+fn compare_written(
+    rt: &impl Print,
+    row: u64,
+    line: &[u8],
+    w: Written,
+    buffer: &[u8],
+) -> io::Result<Held> {
     let verdict = w.verdict;
     let number = refuse::number(verdict);
-    let numbers = differ::numbers(row, line, b"length", number, w.len);
-    let bytes = differ::buffer(row, line, buffer);
-    Held {
+    let numbers = differ::numbers(rt, row, line, b"length", number, w.len)?;
+    let bytes = differ::buffer(rt, row, line, buffer)?;
+    Ok(Held {
         refused: number != 0,
         differs: numbers | bytes,
-    }
+    })
 }
 
 // The buffer's length is tested as that of a file is.
-fn write(row: u64, line: &[u8], c: Case, buffer: &mut [u8]) -> Held {
+fn write(rt: &impl Print, row: u64, line: &[u8], c: Case, buffer: &mut [u8]) -> io::Result<Held> {
     let session = made::whole_session(buffer, c);
     made::fill_buffer(buffer);
     let len = c.place;
     if len > buffer.len() {
-        return report::no_case(row);
+        return report::no_case(rt, row);
     }
     let w = writer::write(session, &mut buffer[0..len]);
-    compare_written(row, line, w, buffer)
+    compare_written(rt, row, line, w, buffer)
 }
 
-fn hold(row: u64, line: &[u8], c: Case) -> Held {
+fn hold(rt: &impl Print, row: u64, line: &[u8], c: Case) -> io::Result<Held> {
     let mut room = [0u8; ROOM];
     let held = if given::is_write(line) {
-        write(row, line, c, &mut room)
+        write(rt, row, line, c, &mut room)?
     } else {
-        read_made(row, line, c, &mut room)
+        read_made(rt, row, line, c, &mut room)?
     };
     if held.differs {
-        differ::print_case(row, c);
+        differ::print_case(rt, row, c)?;
     }
-    held
+    Ok(held)
 }
 
-fn each_value(row: u64, line: &[u8], place: usize, count: usize, before: Counts) -> Counts {
+fn each_value(
+    rt: &impl Print,
+    row: u64,
+    line: &[u8],
+    place: usize,
+    count: usize,
+    before: Counts,
+) -> io::Result<Counts> {
     let mut counts = before;
     for value in given::three(line, 20)..given::three(line, 24) + 1 {
         let c = Case {
@@ -105,49 +120,55 @@ fn each_value(row: u64, line: &[u8], place: usize, count: usize, before: Counts)
             value,
             rest: given::three(line, 28),
         };
-        counts = report::one_more(counts, hold(row, line, c));
+        counts = report::one_more(counts, hold(rt, row, line, c)?);
     }
-    counts
+    Ok(counts)
 }
 
-fn each_count(row: u64, line: &[u8], place: usize, before: Counts) -> Counts {
+fn each_count(
+    rt: &impl Print,
+    row: u64,
+    line: &[u8],
+    place: usize,
+    before: Counts,
+) -> io::Result<Counts> {
     let mut counts = before;
     for count in given::three(line, 12)..given::three(line, 16) + 1 {
-        counts = each_value(row, line, place, count, counts);
+        counts = each_value(rt, row, line, place, count, counts)?;
     }
-    counts
+    Ok(counts)
 }
 
-fn each_place(row: u64, line: &[u8], before: Counts) -> Counts {
+fn each_place(rt: &impl Print, row: u64, line: &[u8], before: Counts) -> io::Result<Counts> {
     let mut counts = before;
     for place in given::three(line, 4)..given::three(line, 8) + 1 {
-        counts = each_count(row, line, place, counts);
+        counts = each_count(rt, row, line, place, counts)?;
     }
-    counts
+    Ok(counts)
 }
 
 // The counts of a line's call after it. A line that is no case differs.
-fn counts_after(row: u64, line: &[u8], before: Counts) -> Counts {
+fn counts_after(rt: &impl Print, row: u64, line: &[u8], before: Counts) -> io::Result<Counts> {
     if given::well_made(line) {
-        return each_place(row, line, before);
+        return each_place(rt, row, line, before);
     }
-    report::one_more(before, report::no_case(row))
+    Ok(report::one_more(before, report::no_case(rt, row)?))
 }
 
 // A line that does not begin as a write counts as a read.
-fn count_line(row: u64, line: &[u8], t: Tally) -> Tally {
+fn count_line(rt: &impl Print, row: u64, line: &[u8], t: Tally) -> io::Result<Tally> {
     let reads = t.reads;
     let writes = t.writes;
     if given::is_write(line) {
-        return Tally {
+        return Ok(Tally {
             reads: reads,
-            writes: counts_after(row, line, writes),
-        };
+            writes: counts_after(rt, row, line, writes)?,
+        });
     }
-    Tally {
-        reads: counts_after(row, line, reads),
+    Ok(Tally {
+        reads: counts_after(rt, row, line, reads)?,
         writes: writes,
-    }
+    })
 }
 
 // The tally after one more line, and whether there was one.
@@ -158,33 +179,30 @@ struct Turn {
 }
 
 // A last line that is cut has no newline, so it is no case.
-fn take_line(row: u64, t: Tally) -> Turn {
+fn take_line(rt: &(impl Input + Print), row: u64, t: Tally) -> io::Result<Turn> {
     let mut line = [0u8; given::LINE];
-    let n = io::read_full(STDIN_FILENO, &mut line);
+    let n = report::read_full(&mut rt.reader(), &mut line)?;
     if n == 0 {
-        return Turn {
+        return Ok(Turn {
             more: false,
             tally: t,
-        };
+        });
     }
-    Turn {
+    Ok(Turn {
         more: true,
-        tally: count_line(row, &line, t),
-    }
+        tally: count_line(rt, row, &line, t)?,
+    })
 }
 
-// A proved loop has to end, and nothing says that the input does: so the turns are counted down from a number that no run uses up.
-fn main() {
+// A proved loop has to end, and nothing says that the input does: so the turns are counted up to a number that no run reaches.
+fn main(rt: HostRuntime) -> io::Result<()> {
     let mut t = tally::none();
-    let mut turns = u64::MAX;
-    while turns > 0 {
-        let s = take_line(u64::MAX - turns + 1, t);
+    for turn in 0..u64::MAX {
+        let s = take_line(&rt, turn + 1, t)?;
         t = s.tally;
-        if s.more {
-            turns -= 1;
-        } else {
-            turns = 0;
+        if !s.more {
+            break;
         }
     }
-    tally::print_totals(t);
+    tally::print_totals(&rt, t)
 }

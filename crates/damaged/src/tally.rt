@@ -1,5 +1,6 @@
 // Counts, of reads and writes apart.
 use report::Counts;
+use std::io;
 
 #[derive(Drop)]
 pub struct Tally {
@@ -14,9 +15,9 @@ pub fn none() -> Tally {
     }
 }
 
-pub fn print_totals(t: Tally) {
+pub fn print_totals(rt: &impl Print, t: Tally) -> io::Result<()> {
     let reads = t.reads;
     let writes = t.writes;
-    report::print_counts(b"read: ", b" files, ", reads);
-    report::print_counts(b"write: ", b" calls, ", writes);
+    report::print_counts(rt, b"read: ", b" files, ", reads)?;
+    report::print_counts(rt, b"write: ", b" calls, ", writes)
 }

@@ -1,5 +1,5 @@
 // What a line gives: which module, and the machine after the run.
-use libc::STDOUT_FILENO;
+use std::io;
 
 // The length of a line, with its newline.
 pub const LINE: usize = 628;
@@ -60,13 +60,14 @@ pub fn registers_after(line: &[u8]) -> [u64; 32] {
 }
 
 // As `zones: 2173 steps to service call 0, agree`.
-pub fn print_result(line: &[u8], steps: u64, call: u64, differs: bool) {
-    io::write_all(STDOUT_FILENO, name(line));
-    report::print_number(b": ", steps);
-    report::print_number(b" steps to service call ", call);
-    if differs {
-        io::write_all(STDOUT_FILENO, b", differs\n");
-    } else {
-        io::write_all(STDOUT_FILENO, b", agree\n");
-    }
+pub fn print_result(
+    rt: &impl Print,
+    line: &[u8],
+    steps: u64,
+    call: u64,
+    differs: bool,
+) -> io::Result<()> {
+    let verdict = if differs { "differs" } else { "agree" };
+    rt.write_all(name(line))?;
+    println!(rt; ": {steps} steps to service call {call}, {verdict}")
 }

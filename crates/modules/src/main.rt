@@ -11,13 +11,16 @@
 //     length of the code [17, 5] and of the window [23, 5], the host's answer [29, 16]
 //     after the run: ecode [46, 2], subcode [49, 2], what the stop carries [52, 16], pc [69, 16], steps of the run [86, 5], total
 //         [92, 8], registers 1 to 31 [101, 16], each 17 behind the one before
+#![tactic(auto)]
+
 mod differ;
 mod file;
 mod given;
 mod way;
 
-use libc::STDIN_FILENO;
 use session::{Reply, Session};
+use std::io;
+use std::rt::Files;
 use way::Way;
 
 // The most code, the largest window, and an arena with room beside it in both ways.
@@ -46,7 +49,7 @@ fn start(line: &[u8], code: &[u8], before: Session) -> Session {
 }
 
 // Where a module begins: fills the arena with the pattern, and the window with the module's card. Says whether the card was there.
-fn fill(line: &[u8], arena: &mut [u8], from: usize, len: usize) -> bool {
+fn fill(rt: &impl Files, line: &[u8], arena: &mut [u8], from: usize, len: usize) -> bool {
     if !given::begins(line) {
         return true;
     }
@@ -58,59 +61,75 @@ fn fill(line: &[u8], arena: &mut [u8], from: usize, len: usize) -> bool {
     if end > arena.len() {
         return false;
     }
-    file::load(given::name(line), b"card", &mut arena[from..end])
+    file::load(rt, given::name(line), b"card", &mut arena[from..end])
 }
 
 // Prints what is not as the line says, but for the arena.
-fn compare(number: u64, line: &[u8], r: Reply) -> Ran {
+fn compare(rt: &impl Print, number: u64, line: &[u8], r: Reply) -> io::Result<Ran> {
     let outcome = r.outcome;
     let session = r.session;
     let found = session::tell(outcome);
     let t = found.stop;
-    let stop = differ::stop(number, line, found);
-    let steps = report::number(number, b"steps", r.steps, text::number(line, 86, 5));
-    let after = differ::session(number, line, session);
-    Ran {
+    let stop = differ::stop(rt, number, line, found)?;
+    let steps = report::number(rt, number, b"steps", r.steps, text::number(line, 86, 5))?;
+    let after = differ::session(rt, number, line, session)?;
+    Ok(Ran {
         session: session,
         steps: r.steps,
         call: t.carried,
         differs: stop | steps | after,
-    }
+    })
 }
 
 // The same for the arena: reads the window as it should be into the room.
-fn compare_arena(number: u64, line: &[u8], arena: &[u8], from: usize, room: &mut [u8]) -> bool {
+fn compare_arena(
+    rt: &(impl Files + Print),
+    number: u64,
+    line: &[u8],
+    arena: &[u8],
+    from: usize,
+    room: &mut [u8],
+) -> io::Result<bool> {
     let len = given::window_length(line);
     if len > room.len() {
-        return differ::file(number, false);
+        return differ::file(rt, number, false);
     }
     let whole = file::load(
+        rt,
         given::name(line),
         given::kind_after(line),
         &mut room[0..len],
     );
-    let missing = differ::file(number, whole);
-    let bytes = differ::arena(number, arena, &room[0..len], from);
-    missing | bytes
+    let missing = differ::file(rt, number, whole)?;
+    let bytes = differ::arena(rt, number, arena, &room[0..len], from)?;
+    Ok(missing | bytes)
 }
 
 // Runs a line in one way.
-fn hold(number: u64, line: &[u8], w: Way, code: &[u8], arena: &mut [u8], before: Session) -> Ran {
+fn hold(
+    rt: &(impl Files + Print),
+    number: u64,
+    line: &[u8],
+    w: Way,
+    code: &[u8],
+    arena: &mut [u8],
+    before: Session,
+) -> io::Result<Ran> {
     let mut room = [0u8; WINDOW];
     let len = given::window_length(line);
-    let filled = fill(line, arena, w.start, len);
-    let missing = differ::file(number, filled);
+    let filled = fill(rt, line, arena, w.start, len);
+    let missing = differ::file(rt, number, filled)?;
     let session = start(line, code, before);
     let r = way::run(code, arena, len, session, w);
-    let ran = compare(number, line, r);
-    let bytes = compare_arena(number, line, arena, w.start, &mut room);
+    let ran = compare(rt, number, line, r)?;
+    let bytes = compare_arena(rt, number, line, arena, w.start, &mut room)?;
     let after = ran.session;
-    Ran {
+    Ok(Ran {
         session: after,
         steps: ran.steps,
         call: ran.call,
         differs: ran.differs | bytes | missing,
-    }
+    })
 }
 
 // The sessions of both ways, and whether there was a line.
@@ -123,81 +142,84 @@ struct Both {
 
 // Runs a line in both ways, and prints what came of it.
 fn hold_both(
+    rt: &(impl Files + Print),
     number: u64,
     line: &[u8],
     code: &[u8],
     first: &mut [u8; ARENA],
     second: &mut [u8; ARENA],
     b: Both,
-) -> Both {
+) -> io::Result<Both> {
     let one = b.one;
     let sliced = b.sliced;
-    let x = hold(number, line, Way::in_one_go(), code, first, one);
-    let y = hold(number, line, Way::in_slices(), code, second, sliced);
-    given::print_result(line, x.steps, x.call, x.differs | y.differs);
+    let x = hold(rt, number, line, Way::in_one_go(), code, first, one)?;
+    let y = hold(rt, number, line, Way::in_slices(), code, second, sliced)?;
+    given::print_result(rt, line, x.steps, x.call, x.differs | y.differs)?;
     let one_after = x.session;
     let sliced_after = y.session;
-    Both {
+    Ok(Both {
         more: true,
         one: one_after,
         sliced: sliced_after,
-    }
+    })
 }
 
 // Where a module begins: reads its code, and says whether it was there.
-fn load_code(line: &[u8], code: &mut [u8]) -> bool {
+fn load_code(rt: &impl Files, line: &[u8], code: &mut [u8]) -> bool {
     if !given::begins(line) {
         return true;
     }
-    file::load(given::name(line), b"code", code)
+    file::load(rt, given::name(line), b"code", code)
 }
 
 fn hold_line(
+    rt: &(impl Files + Print),
     number: u64,
     line: &[u8],
     code: &mut [u8],
     first: &mut [u8; ARENA],
     second: &mut [u8; ARENA],
     b: Both,
-) -> Both {
+) -> io::Result<Both> {
     let len = given::code_length(line);
     if len > code.len() || !given::well_made(line) {
-        report::no_case(number);
-        return b;
+        report::no_case(rt, number)?;
+        return Ok(b);
     }
-    let whole = load_code(line, &mut code[0..len]);
-    if differ::file(number, whole) {
-        return b;
+    let whole = load_code(rt, line, &mut code[0..len]);
+    if differ::file(rt, number, whole)? {
+        return Ok(b);
     }
-    hold_both(number, line, &code[0..len], first, second, b)
+    hold_both(rt, number, line, &code[0..len], first, second, b)
 }
 
 fn take_line(
+    rt: &(impl Files + Input + Print),
     number: u64,
     code: &mut [u8; CODE],
     first: &mut [u8; ARENA],
     second: &mut [u8; ARENA],
     b: Both,
-) -> Both {
+) -> io::Result<Both> {
     let mut line = [0u8; given::LINE];
-    let n = io::read_full(STDIN_FILENO, &mut line);
+    let n = report::read_full(&mut rt.reader(), &mut line)?;
     if n == given::LINE {
-        return hold_line(number, &line, code, first, second, b);
+        return hold_line(rt, number, &line, code, first, second, b);
     }
     if n != 0 {
-        report::print_cut();
+        report::print_cut(rt)?;
     }
     let one = b.one;
     let sliced = b.sliced;
-    Both {
+    Ok(Both {
         more: false,
         one: one,
         sliced: sliced,
-    }
+    })
 }
 
-// A proved loop has to end, and nothing says that the input does: so the turns are counted down from a number that no run uses up.
-fn main() {
+// A proved loop has to end, and nothing says that the input does: so the turns are counted up to a number that no run reaches.
+fn main(rt: HostRuntime) -> io::Result<()> {
     let mut code = [0u8; CODE];
     let mut first = [0u8; ARENA];
     let mut second = [0u8; ARENA];
@@ -206,9 +228,11 @@ fn main() {
         one: Session::start(),
         sliced: Session::start(),
     };
-    let mut turns = u64::MAX;
-    while turns > 0 {
-        b = take_line(u64::MAX - turns + 1, &mut code, &mut first, &mut second, b);
-        turns = if b.more { turns - 1 } else { 0 };
+    for turn in 0..u64::MAX {
+        b = take_line(&rt, turn + 1, &mut code, &mut first, &mut second, b)?;
+        if !b.more {
+            break;
+        }
     }
+    Ok(())
 }

@@ -3,7 +3,7 @@ use place::{ArenaOffset, Window};
 use session::{Outcome, Reply, Session, Stop};
 
 // Where the window starts in the arena, how many steps a run is given, and how many runs there may be up to a service call.
-#[derive(Drop)]
+#[derive(Clone, Copy)]
 pub struct Way {
     pub start: usize,
     pub slice: u64,

@@ -5,10 +5,12 @@
 //     kind [0, 1]: s is a stop, b a spent budget, r a refusal, a an answer; Ecode of the stop or number of the refusal [2, 2, d], subcode
 //         [5, 1, d], what the stop carries [7, 16]; steps [24, 16], pc [41, 16]
 //     two registers, 0 for none: number [58, 2, d] and value [61, 16], number [78, 2, d] and value [81, 16]
+#![tactic(auto)]
+
 mod given;
 
 use given::Given;
-use libc::{STDIN_FILENO, STDOUT_FILENO};
+use std::io;
 
 // Whether a byte of the page past the text is another one than before.
 fn changed(page: &[u8; printed::PAGE], len: usize) -> bool {
@@ -20,16 +22,16 @@ fn changed(page: &[u8; printed::PAGE], len: usize) -> bool {
 }
 
 // Prints a line's outcome, and says whether the rest of the page changed.
-fn print_case(line: &[u8]) -> bool {
+fn print_case(rt: &impl Print, line: &[u8]) -> io::Result<bool> {
     let Given::Case(outcome) = given::outcome(line) else {
-        io::write_all(STDOUT_FILENO, b"it is no case\n");
-        return true;
+        println!(rt; "it is no case")?;
+        return Ok(true);
     };
     let mut page = [0u8; printed::PAGE];
     report::fill(&mut page, 0);
     let len = printed::print(given::reply(line, outcome), &mut page);
-    io::write_all(STDOUT_FILENO, &page[..len]);
-    changed(&page, len)
+    rt.write_all(&page[..len])?;
+    Ok(changed(&page, len))
 }
 
 // Whether there was a line, and whether its page changed past the text.
@@ -39,46 +41,40 @@ struct Taken {
     changed: bool,
 }
 
-fn take_line(number: u64) -> Taken {
+fn take_line(rt: &(impl Input + Print), number: u64) -> io::Result<Taken> {
     let mut line = [0u8; given::LINE];
-    let n = io::read_full(STDIN_FILENO, &mut line);
+    let n = report::read_full(&mut rt.reader(), &mut line)?;
     if n == given::LINE {
-        report::print_number(b"case ", number);
-        io::write_all(STDOUT_FILENO, b"\n");
-        return Taken {
+        println!(rt; "case {number}")?;
+        return Ok(Taken {
             more: true,
-            changed: print_case(&line),
-        };
+            changed: print_case(rt, &line)?,
+        });
     }
     if n != 0 {
-        report::print_cut();
+        report::print_cut(rt)?;
     }
-    Taken {
+    Ok(Taken {
         more: false,
         changed: false,
-    }
+    })
 }
 
-fn print_totals(done: u64, bad: u64) {
-    io::print_decimal(STDOUT_FILENO, done);
-    report::print_number(b" outcomes, ", bad);
-    io::write_all(STDOUT_FILENO, b" pages with a byte changed past the text\n");
+fn print_totals(rt: &impl Print, done: u64, bad: u64) -> io::Result<()> {
+    println!(rt; "{done} outcomes, {bad} pages with a byte changed past the text")
 }
 
-// A proved loop has to end, and nothing says that the input does: so the turns are counted down from a number that no run uses up.
-fn main() {
+// A proved loop has to end, and nothing says that the input does: so the turns are counted up to a number that no run reaches.
+fn main(rt: HostRuntime) -> io::Result<()> {
     let mut done: u64 = 0;
     let mut bad: u64 = 0;
-    let mut turns = u64::MAX;
-    while turns > 0 {
-        let t = take_line(report::more_if(done, true));
+    for _ in 0..u64::MAX {
+        let t = take_line(&rt, report::more_if(done, true))?;
         bad = report::more_if(bad, t.changed);
         done = report::more_if(done, t.more);
-        if t.more {
-            turns -= 1;
-        } else {
-            turns = 0;
+        if !t.more {
+            break;
         }
     }
-    print_totals(done, bad);
+    print_totals(&rt, done, bad)
 }

@@ -158,7 +158,7 @@ pub fn session(line: &[u8]) -> Session {
 }
 
 // Where in the arena the bytes lie that the line gives, and how many they are.
-#[derive(Drop)]
+#[derive(Clone, Copy)]
 pub struct Part {
     pub from: usize,
     pub n: usize,

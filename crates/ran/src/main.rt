@@ -10,14 +10,16 @@
 //         carries [1105, 16], zeros where the budget is spent; steps [1122, 5], pc [1128, 16], r1 to r31 [1145, 496]; the bytes of the
 //         window in the order of memory [1642, 512]
 // All else is a pattern that `given` makes, and must not change, but that the total grows by the steps.
+#![tactic(auto)]
+
 mod differ;
 mod given;
 
-use libc::STDIN_FILENO;
 use place::{ArenaOffset, Window};
 use report::tally;
 use report::tally::Tally;
 use session::Reply;
+use std::io;
 
 // The most code, and an arena with room around the largest window.
 const CODE: usize = 65536;
@@ -25,23 +27,29 @@ const CODE: usize = 65536;
 const ARENA: usize = 65602;
 
 // Prints what is not as the line says, and says whether anything is.
-fn compare(number: u64, line: &[u8], r: Reply, arena: &[u8]) -> bool {
+fn compare(rt: &impl Print, number: u64, line: &[u8], r: Reply, arena: &[u8]) -> io::Result<bool> {
     let outcome = r.outcome;
     let session = r.session;
     let found = session::tell(outcome);
-    let stop = differ::stop(number, line, found);
-    let steps = report::value(number, b"steps", r.steps, given::steps(line));
-    let after = differ::session(number, line, session);
-    let bytes = differ::arena(number, line, arena);
-    stop || steps || after || bytes
+    let stop = differ::stop(rt, number, line, found)?;
+    let steps = report::value(rt, number, b"steps", r.steps, given::steps(line))?;
+    let after = differ::session(rt, number, line, session)?;
+    let bytes = differ::arena(rt, number, line, arena)?;
+    Ok(stop || steps || after || bytes)
 }
 
 // Runs a line's program in this code, in a window of this arena, of which it lends as much as the line needs.
-fn differs_in(number: u64, line: &[u8], code: &[u8], arena: &mut [u8]) -> bool {
+fn differs_in(
+    rt: &impl Print,
+    number: u64,
+    line: &[u8],
+    code: &[u8],
+    arena: &mut [u8],
+) -> io::Result<bool> {
     let len = given::window_length(line);
     let end = given::START + len + given::AFTER;
     if end > arena.len() {
-        return report::no_case(number).differs;
+        return Ok(report::no_case(rt, number)?.differs);
     }
     let window = Window {
         start: ArenaOffset(given::START),
@@ -56,19 +64,25 @@ fn differs_in(number: u64, line: &[u8], code: &[u8], arena: &mut [u8]) -> bool {
         session,
         given::budget(line),
     );
-    compare(number, line, r, arena)
+    compare(rt, number, line, r, arena)
 }
 
 // Gives a line's program as much code as the line says, with the words in their place.
-fn differs(number: u64, line: &[u8], code: &mut [u8], arena: &mut [u8]) -> bool {
+fn differs(
+    rt: &impl Print,
+    number: u64,
+    line: &[u8],
+    code: &mut [u8],
+    arena: &mut [u8],
+) -> io::Result<bool> {
     let len = given::code_length(line);
     if len > code.len() || !given::well_made(line) {
-        return report::no_case(number).differs;
+        return Ok(report::no_case(rt, number)?.differs);
     }
     given::put_words(code, line, false);
-    let answer = differs_in(number, line, &code[0..len], arena);
+    let answer = differs_in(rt, number, line, &code[0..len], arena)?;
     given::put_words(code, line, true);
-    answer
+    Ok(answer)
 }
 
 // The tally after one more line, and whether there was one.
@@ -78,42 +92,44 @@ struct Turn {
     tally: Tally,
 }
 
-fn take_line(t: Tally, code: &mut [u8; CODE], arena: &mut [u8; ARENA]) -> Turn {
+fn take_line(
+    rt: &(impl Input + Print),
+    t: Tally,
+    code: &mut [u8; CODE],
+    arena: &mut [u8; ARENA],
+) -> io::Result<Turn> {
     let mut line = [0u8; given::LINE];
-    let n = io::read_full(STDIN_FILENO, &mut line);
+    let n = report::read_full(&mut rt.reader(), &mut line)?;
     if n == given::LINE {
-        let of_group = tally::for_line(t, &line);
-        let d = differs(tally::next_number(t), &line, code, arena);
-        return Turn {
+        let of_group = tally::for_line(rt, t, &line)?;
+        let d = differs(rt, tally::next_number(t), &line, code, arena)?;
+        return Ok(Turn {
             more: true,
             tally: tally::count(of_group, &line, d),
-        };
+        });
     }
     if n != 0 {
-        report::print_cut();
+        report::print_cut(rt)?;
     }
-    Turn {
+    Ok(Turn {
         more: false,
         tally: t,
-    }
+    })
 }
 
-// A proved loop has to end, and nothing says that the input does: so the turns are counted down from a number that no run uses up.
-fn main() {
+// A proved loop has to end, and nothing says that the input does: so the turns are counted up to a number that no run reaches.
+fn main(rt: HostRuntime) -> io::Result<()> {
     let mut code = [0u8; CODE];
     let mut arena = [0u8; ARENA];
     given::fill_code(&mut code);
     let mut t = tally::none();
-    let mut turns = u64::MAX;
-    while turns > 0 {
-        let s = take_line(t, &mut code, &mut arena);
+    for _ in 0..u64::MAX {
+        let s = take_line(&rt, t, &mut code, &mut arena)?;
         t = s.tally;
-        if s.more {
-            turns -= 1;
-        } else {
-            turns = 0;
+        if !s.more {
+            break;
         }
     }
-    tally::print_group(t);
-    tally::print_totals(t);
+    tally::print_group(&rt, t)?;
+    tally::print_totals(&rt, t)
 }
