@@ -4,3 +4,5 @@ pub mod There
 pub mod Back
 pub mod RoundTrip
 pub mod Edges
+pub mod Order
+pub mod Examples

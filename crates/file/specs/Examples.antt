@@ -1,13 +1,11 @@
 -- 01's sentences on the file, worked out on a file of each form: where the bytes stand, and what reading a damaged file says. Each
--- table is one computed test.
-use Rattle.std.specs.Prelude.{ℕ, ◌≡◌, refl, Bool, true, ◌&&◌, List, [], ◌∷◌, ◌++◌, eqb, take, get_or, set, replicate}
-use Rattle.byte_order.specs.Bytes.{get_le, bytes_le}
+-- table is one computed test, in proofs/Examples.antt.
+use Rattle.std.specs.Prelude.{ℕ, Bool, true, ◌&&◌, List, [], ◌∷◌, ◌++◌, eqb, take, set, replicate}
 use Rattle.session.specs.declared.Note.{Note}
 use Rattle.session.specs.declared.Session.{Session}
 use Rattle.refuse.specs.Refusals.{refused_of}
-use Rattle.file.specs.Format.{bytes_of_each, numbers_at}
 use Rattle.file.specs.Writing.{file_of}
-use Rattle.file.specs.Reading.{due_of, stands, extra_of, parsed_of, host_read_of}
+use Rattle.file.specs.Reading.{host_read_of}
 
 abbrev pub sample : Note → Session
 sample note = record {
@@ -46,10 +44,6 @@ places =
     ∷ byte 267 4 ∷ byte 268 0x66 ∷ byte 275 0x77 ∷ byte 276 0x88 ∷ byte 283 0x99
     ∷ byte 284 5
     ∷ []
-
-pub bytes_in_place : of_all (λ (b : Byte). eqb (get_or noted b.at 0) b.value) places ≡ true
-unfolding file_of bytes_le bytes_of_each
-bytes_in_place = refl
 
 -- a file, and the number and the offset that reading it returns
 pub record Damage : Type 0 where
@@ -96,7 +90,3 @@ damages =
 
 abbrev pub told : Damage → Bool
 told d = eqb (refused_of (host_read_of d.file).verdict) d.number && eqb (host_read_of d.file).offset d.offset
-
-pub damages_told : of_all told damages ≡ true
-unfolding file_of bytes_le bytes_of_each numbers_at get_le host_read_of parsed_of due_of stands extra_of
-damages_told = refl

@@ -1,10 +1,10 @@
 -- 01: "Writing tests 4, then 14." "refused writes leave the buffer unchanged and return length 0, accepted ones the file's length." "A longer
 -- buffer is written only in its first 268 or 285 bytes."
-use Rattle.std.specs.Prelude.{ℕ, ◌≡◌, refl, Bool, cond, ◌&&◌, List, [], ◌∷◌, ◌++◌, eqb, ltb, length, drop}
+use Rattle.std.specs.Prelude.{ℕ, Bool, cond, ◌&&◌, List, [], ◌∷◌, ◌++◌, eqb, ltb, length, drop}
 use Rattle.session.specs.declared.Session.{Session}
 use Rattle.session.specs.declared.Refusal.TheVariants.{ZeroRegister, BufferLength}
 use Rattle.refuse.specs.declared.Verdict.{Verdict}
-use Rattle.refuse.specs.Refusals.{zero_due, Test, test, verdict_of, order}
+use Rattle.refuse.specs.Refusals.{zero_due, Test, test, verdict_of}
 use Rattle.file.specs.declared.Written.{Written}
 use Rattle.file.specs.Format.{Row, format}
 
@@ -28,12 +28,9 @@ file_of s = rows_bytes format s
 unfoldable pub buffer_due : Session → ℕ → Bool
 buffer_due s room = ltb room (length (file_of s))
 
--- "Writing tests 4, then 14."
+-- "Writing tests 4, then 14." (proofs/Order.antt, `write_order`)
 abbrev pub write_tests : Session → ℕ → List Test
 write_tests s room = test ZeroRegister (zero_due s) ∷ test BufferLength (buffer_due s room) ∷ []
-
-pub write_order : (s : Session) (room : ℕ) → order (write_tests s room) ≡ 4 ∷ 14 ∷ []
-write_order s room = refl
 
 abbrev pub write_judged : Verdict → Session → List ℕ → Written × List ℕ
 write_judged Verdict.Accepted s buffer =

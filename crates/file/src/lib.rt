@@ -1,4 +1,7 @@
 // The paused session's file: what its writer and its reader return, and how far a reader has come.
+
+#![tactic(auto)]
+
 use refuse::Verdict;
 use session::{Refusal, Session};
 

@@ -1,4 +1,7 @@
 // The host's call that runs a session. All tests come first; then the loop.
+
+#![tactic(auto)]
+
 ghost use Rattle.std.specs.Prelude.{◌+◌, ◌^◌, ◌≤◌, length};
 ghost use Rattle.apply.specs.Machine.{ground_on};
 ghost use Rattle.running.specs.Run.{ran_of, Leaves};

@@ -1,4 +1,7 @@
 // Reading a paused session: one kind a function, each of which takes the cursor and hands a refusal on.
+
+#![tactic(auto)]
+
 ghost use Rattle.std.specs.Prelude.{◌≡◌, ◌∷◌, ◌+◌, ◌≤◌, length};
 ghost use Rattle.file.specs.Format.{numbers_at, pc_row, registers_row, total_row, note_row, end_row};
 ghost use Rattle.file.specs.Promises.{Reads};

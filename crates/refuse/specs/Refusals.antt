@@ -1,5 +1,5 @@
 -- 01, "Refusal numbers": when each refusal of a run is due, on whole numbers, and which one is given. No sum here wraps.
-use Rattle.std.specs.Prelude.{ℕ, ◌+◌, ◌%◌, ◌≡◌, refl, Bool, cond, ◌||◌, not, List, [], ◌∷◌, map, ltb, eqb, get_or}
+use Rattle.std.specs.Prelude.{ℕ, ◌+◌, ◌%◌, Bool, cond, ◌||◌, not, List, [], ◌∷◌, map, ltb, eqb, get_or}
 use Rattle.place.specs.declared.Window.{Window}
 use Rattle.place.specs.Place.{code_max, window_max}
 use Rattle.session.specs.declared.Session.{Session}
@@ -62,9 +62,6 @@ run_tests code arena w s budget =
     ∷ test Total (total_due s budget)
     ∷ []
 
--- the numbers of a list of tests, in its order
+-- the numbers of a list of tests, in its order: 1 to 6 for a run (proofs/Order.antt, `run_order`)
 abbrev pub order : List Test → List ℕ
 order ts = map (λ (t : Test). number_of t.refusal) ts
-
-pub run_order : (code arena : ℕ) (w : Window) (s : Session) (budget : ℕ) → order (run_tests code arena w s budget) ≡ 1 ∷ 2 ∷ 3 ∷ 4 ∷ 5 ∷ 6 ∷ []
-run_order code arena w s budget = refl

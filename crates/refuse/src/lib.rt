@@ -1,4 +1,7 @@
 // The tests that a run and an answer make before anything changes. Each decides on whole numbers: no sum here can wrap.
+
+#![tactic(auto)]
+
 ghost use Rattle.std.specs.Prelude.{◌≡◌, ◌<◌};
 ghost use Rattle.refuse.specs.Refusals.{code_due, window_due, place_due, zero_due, budget_due, total_due, verdict_of, refused_of, run_tests};
 

@@ -406,6 +406,7 @@ within zero (F ∷ Fs) = true
 within (suc n) (F ∷ Fs) = within n Fs
 
 has_left : {e : Entry} (es fs : List Entry) → Has e es → Has e (es ++ fs)
+has_left {e = e} [] fs x = elim x [ ]
 has_left (e ∷ es) fs here = here
 has_left (f ∷ es) fs (there h) = there (has_left es fs h)
 

@@ -1,4 +1,7 @@
 // The host's answer to a service call.
+
+#![tactic(auto)]
+
 ghost use Rattle.std.specs.Prelude.{◌≡◌};
 ghost use Rattle.refuse.specs.Refusals.{verdict_of};
 ghost use Rattle.service.specs.Answer.{is_syscall, call_due, answer_tests, Answers};

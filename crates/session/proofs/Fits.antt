@@ -1,6 +1,6 @@
--- Whatever session comes into a function fits: this reads what owning it tells (`c.good`).
+-- Whatever session comes into a function fits: this reads what owning it tells .
 use mathlib.Core.Path.{◌≡◌}
-use mathlib.Core.List.{List, [], ◌∷◌, map, map-id}
+use mathlib.Core.List.{List, [], ◌∷◌}
 use Prim.Native.Nat.{ℕ, zero, suc, ◌<◌, ◌^◌}
 use native.Mathlib.Omega.{arith}
 use lib.ListN.{length, get_or}
@@ -17,8 +17,7 @@ use Rattle.session.specs.declared.Note.{Note}
 use Rattle.session.specs.Fit.{Fit, NoteFit}
 
 -- `Is` of a type, computed: a u64's is its machine value and its bound (`.1`); a struct's has its fields in order behind `.1 .1`; an array's has
--- its length at `.1 .0 .1` and its elements at `.1 .1`; an enum's has the fields of its case, which it is known by, behind `.1 .1 .1 .1`. An
--- array field's elements stand there as they are, but under a `map`.
+-- its length at `.1 .0 .1` and its elements at `.1 .1`; an enum's has the fields of its case, which it is known by, behind `.1 .1 .1 .1`.
 each_lt : (xs : List ℕ) (us : List Val) → shadow (each ℕ u64-field.row.own_val xs us) → (i : ℕ) → get_or xs i 0 < 2 ^ 64
 each_lt [] us h i = omega arith
 each_lt (x ∷ xs) [] h i = absurd h
@@ -35,11 +34,11 @@ session_fits s vs h =
     let regs = fields.0.1 in
     let pc = fields.1.0.1.1 in
     let total = fields.1.1.0 in
-    let count : length (map (λ x. x) s.regs) ≡ 32 = regs.0.1 in
-    let bounds : (i : ℕ) → get_or (map (λ x. x) s.regs) i 0 < 2 ^ 64 = each_lt (map (λ x. x) s.regs) _ regs.1 in
+    let count : length s.regs ≡ 32 = regs.0.1 in
+    let bounds : (i : ℕ) → get_or s.regs i 0 < 2 ^ 64 = each_lt s.regs _ regs.1 in
     record {
-      count = rw map-id at count;
-      regs = rw map-id at bounds;
+      count = count;
+      regs = bounds;
       pc = pc.0.1;
       total = total.1;
       note = note_fits s.note _ fields.1.1.1.0;

@@ -1,6 +1,6 @@
 -- What every session has that a caller can hand in, by the types of its numbers. 01: "32 general registers of 64 bits", "16 bytes". No
 -- promise asks it of anyone: proofs/Fits.antt shows it of whatever session comes in. What every file has is `AreBytes`
--- (crates/bytes/specs/Bytes.antt).
+-- (crates/byte_order/specs/Bytes.antt).
 use Rattle.std.specs.Prelude.{ℕ, ◌^◌, ◌<◌, ◌≡◌, length, get_or}
 use Rattle.session.specs.declared.Note.{Note}
 use Rattle.session.specs.declared.Session.{Session}

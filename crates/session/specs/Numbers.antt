@@ -1,7 +1,6 @@
 -- 01's numbers for every refusal, and for every way in which a run or an answer ends: "Refusal numbers" and "Stops".
-use Rattle.std.specs.Prelude.{ℕ, ◌≡◌, refl, true, cond, List, [], ◌∷◌, eqb}
+use Rattle.std.specs.Prelude.{ℕ, cond, List, [], ◌∷◌, eqb}
 use Rattle.fault.specs.declared.Telling.{Telling}
-use Rattle.fault.specs.Differ.{all_differ}
 use Rattle.fault.specs.Fault.{told_of, telling_of}
 use Rattle.session.specs.declared.Stop.{Stop}
 use Rattle.session.specs.declared.Refusal.{Refusal}
@@ -33,14 +32,11 @@ numbers_of (Outcome.Stopped stop) = record { refused = 0; stop = stop_numbers_of
 numbers_of Outcome.Answered = record { refused = 0; stop = told_of 0 0 0 }
 numbers_of (Outcome.Refused refusal) = record { refused = number_of refusal; stop = told_of 0 0 0 }
 
--- Different refusals have different numbers: no two of the list have the same.
+-- Different refusals have different numbers: no two of the list have the same (proofs/Different.antt, `refusals_differ`).
 abbrev pub refusals : List Refusal
 refusals = CodeLength ∷ WindowLength ∷ WindowPlace ∷ ZeroRegister ∷ Budget ∷ Total ∷ NoSyscall ∷ FileKind ∷ FileCut ∷ FileExtra ∷ BufferLength ∷ []
 
-pub refusals_differ : all_differ (λ r s. eqb (number_of r) (number_of s)) refusals ≡ true
-refusals_differ = refl
-
--- From the number back to the refusal, so that none is forgotten: one that is added without a number of its own is refused here.
+-- From the number back to the refusal, so that none is forgotten: one that is added without a number of its own is refused in proofs/Different.antt (`numbered_back`).
 abbrev pub numbered : ℕ → Refusal
 numbered n =
     cond (eqb n 1) CodeLength
@@ -53,16 +49,3 @@ numbered n =
     (cond (eqb n 11) FileKind
     (cond (eqb n 12) FileCut
     (cond (eqb n 13) FileExtra BufferLength)))))))))
-
-pub numbered_back : (r : Refusal) → numbered (number_of r) ≡ r
-numbered_back CodeLength = refl
-numbered_back WindowLength = refl
-numbered_back WindowPlace = refl
-numbered_back ZeroRegister = refl
-numbered_back Budget = refl
-numbered_back Total = refl
-numbered_back NoSyscall = refl
-numbered_back FileKind = refl
-numbered_back FileCut = refl
-numbered_back FileExtra = refl
-numbered_back BufferLength = refl

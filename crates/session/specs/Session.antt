@@ -1,6 +1,6 @@
 -- 01, "The guest machine": "A session holds 32 general registers of 64 bits, the program counter (pc), the total of steps completed, and
 -- a support note: 16 bytes, or absent and then without content."
-use Rattle.std.specs.Prelude.{ℕ, ◌^◌, ◌≡◌, refl, List, [], ◌∷◌, ◌++◌, replicate}
+use Rattle.std.specs.Prelude.{ℕ, ◌^◌, List, [], ◌++◌, replicate}
 use Rattle.place.specs.Place.{code_base}
 use Rattle.byte_order.specs.Bytes.{bytes_le}
 use Rattle.session.specs.declared.Note.{Note}
@@ -18,11 +18,6 @@ start_of = record { regs = replicate 32 0; pc = record { 0 = code_base }; total 
 abbrev pub note_bytes : Note → List ℕ
 note_bytes Note.Absent = []
 note_bytes (Note.Present low high) = bytes_le 8 low ++ bytes_le 8 high
-
--- the first byte is the lowest of the first number
-pub note_in_order : note_bytes (Note.Present 0x0807060504030201 0x100f0e0d0c0b0a09) ≡ 1 ∷ 2 ∷ 3 ∷ 4 ∷ 5 ∷ 6 ∷ 7 ∷ 8 ∷ 9 ∷ 10 ∷ 11 ∷ 12 ∷ 13 ∷ 14 ∷ 15 ∷ 16 ∷ []
-unfolding bytes_le
-note_in_order = refl
 
 -- refusal 5: "budget over 1,000,000"
 abbrev pub budget_max : ℕ

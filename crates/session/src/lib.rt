@@ -1,4 +1,7 @@
 // A session, and how a host call on it ends.
+
+#![tactic(auto)]
+
 ghost use Rattle.std.specs.Prelude.{◌≡◌};
 ghost use Rattle.fault.specs.Fault.{told_of};
 ghost use Rattle.session.specs.Session.{fresh_of, start_of};

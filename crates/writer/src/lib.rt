@@ -1,4 +1,7 @@
 // Writing a paused session: one kind a function, each of which returns where the next kind goes.
+
+#![tactic(auto)]
+
 ghost use Rattle.std.specs.Prelude.{◌≡◌, [], ◌∷◌, ◌+◌, ◌≤◌, length, drop};
 ghost use Rattle.std.proofs.lemmas.List.Edits.{sets};
 ghost use Rattle.byte_order.specs.Bytes.{bytes_le};
