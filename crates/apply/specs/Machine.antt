@@ -1,6 +1,6 @@
 -- The machine's state in two records: what a run stands on and does not change, and what a step changes; and how a step ended. No other file of
 -- definitions lists the fields. Elsewhere the records are passed on whole, a field is read by its name, and a state is changed by a setter.
-use Rattle.std.specs.Prelude.{ℕ, ◌≡◌, refl, List}
+use Rattle.std.specs.Prelude.{ℕ, ◌≡◌, List}
 use Rattle.place.specs.declared.GuestAddr.{GuestAddr}
 use Rattle.place.specs.declared.Window.{Window}
 use Rattle.fault.specs.declared.Fault.{Fault}
@@ -41,12 +41,6 @@ with_arena arena s = state s.regs s.pc arena
 -- Each setter sets its own field; given the value that is there, it gives the record back, so that it loses no other field.
 abbrev pub Sets : {R F : Type 0} → (R → F) → (F → R → R) → Type 0
 Sets {R} {F} field setter = (x : F) (r : R) → (field (setter x r) ≡ x) × (setter (field r) r ≡ r)
-
-pub setters : Sets (λ (g : Ground). g.window) with_window
-    × Sets (λ (s : State). s.regs) with_regs
-    × Sets (λ (s : State). s.pc) with_pc
-    × Sets (λ (s : State). s.arena) with_arena
-setters = ((λ x g. (refl, refl)), (λ x s. (refl, refl)), (λ x s. (refl, refl)), (λ x s. (refl, refl)))
 
 -- How a step ended, and the state that it leaves.
 pub record Ended : Type 0 where

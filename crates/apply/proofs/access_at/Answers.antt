@@ -1,7 +1,6 @@
 -- `apply::access_at` meets its contract.
 use mathlib.Core.Path.{refl}
 use native.Mathlib.Omega.{arith}
-use borrow.Author.Rules.{rules}
 use borrow.Author.Tests.{eq-eqb, ne_eqb}
 use Rattle.place.proofs.Reach.{bytes_small}
 use Rattle.apply.specs.Apply.{access_of}

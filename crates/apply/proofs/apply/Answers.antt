@@ -1,7 +1,6 @@
 -- `apply::apply` meets its contract, an effect a line.
 use mathlib.Core.Path.{refl, sym, ◌∙◌}
 use native.Mathlib.Omega.{arith}
-use borrow.Author.Rules.{rules}
 use Rattle.apply.specs.Apply.{apply_of}
 use Rattle.apply.proofs.Accesses.{access_inside}
 use Rattle.apply.proofs.apply.Goals as goal

@@ -1,6 +1,5 @@
 -- `ask::ask` meets its contract, one line an arm.
 use mathlib.Core.Path.{refl}
-use borrow.Author.Rules.{rules}
 use Rattle.effect.specs.Effect.{effect_of}
 use Rattle.ask.proofs.ask.Goals as goal
 

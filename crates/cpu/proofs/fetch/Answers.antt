@@ -1,8 +1,6 @@
 -- `cpu::fetch` meets its contract.
 use mathlib.Core.Path.{refl, sym, ◌∙◌}
-use native.Mathlib.Omega.{arith}
 use lib.ListN.{length}
-use borrow.Author.Rules.{rules}
 use Rattle.place.proofs.Reach.{fetched_inside}
 use Rattle.cpu.specs.Step.{fetch_of}
 use Rattle.cpu.proofs.fetch.Goals as goal

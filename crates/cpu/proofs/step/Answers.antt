@@ -1,6 +1,5 @@
 -- `cpu::step` meets its contract: the turn on a copy, and the old array where it raised.
 use mathlib.Core.Path.{◌≡◌, refl}
-use borrow.Author.Rules.{rules}
 use Rattle.apply.specs.Machine.{Ended, stepped_of}
 use Rattle.cpu.specs.Step.{Steps}
 use Rattle.cpu.proofs.Turns.{goes_on, stops}

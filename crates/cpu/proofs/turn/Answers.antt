@@ -1,7 +1,6 @@
 -- `cpu::turn` meets its contract: fetch, what the word asks for, apply.
 use mathlib.Core.Path.{◌≡◌, refl}
 use Prim.Native.Nat.{ℕ}
-use borrow.Author.Rules.{rules}
 use Rattle.isa.specs.declared.Decoded.{Decoded}
 use Rattle.asked.specs.Asked.{asked_of}
 use Rattle.apply.specs.Machine.{Ground, State}
