@@ -184,6 +184,7 @@ fn take_end(file: &[u8], c: Cursor) -> Cursor
 }
 
 // Bytes after the end mark.
+#[tactic(auto, unfolding(file::specs::Reading::extra_of))]
 fn extra(file: &[u8], progress: Progress) -> Progress
     ensures { result ≡ extra_of file.now progress }
 {

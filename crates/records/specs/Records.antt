@@ -1,9 +1,7 @@
 -- The records of the archive, and what they say. The note's presence is a number: 0 is absent, and every other one is present.
-use Rattle.std.specs.Prelude.{ℕ, ◌≡◌, refl, cond, eqb}
+use Rattle.std.specs.Prelude.{ℕ, cond, eqb}
 use Rattle.session.specs.declared.Note.{Note}
 use Rattle.session.specs.declared.Session.{Session}
-use Rattle.session.specs.declared.Refusal.{Refusal}
-use Rattle.session.specs.declared.Outcome.{Outcome}
 use Rattle.session.specs.declared.Reply.{Reply}
 use Rattle.session.specs.Numbers.{numbers_of}
 use Rattle.refuse.specs.Refusals.{refused_of}
@@ -33,19 +31,12 @@ abbrev pub high_of : Note → ℕ
 high_of Note.Absent = 0
 high_of (Note.Present low high) = high
 
+-- A session that goes out and comes back is the same (proofs/Back.antt, `there_and_back`).
 abbrev pub record_of : Session → SessionRecord
 record_of s =
     record { regs = s.regs; pc = s.pc.0; total = s.total; noted = noted_of s.note; low = low_of s.note; high = high_of s.note }
 
--- A session that goes out and comes back is the same.
-pub note_back : (n : Note) → note_of (noted_of n) (low_of n) (high_of n) ≡ n
-note_back Note.Absent = refl
-note_back (Note.Present low high) = refl
-
-pub there_and_back : (s : Session) → session_of (record_of s) ≡ s
-there_and_back s = rw (note_back s.note) refl
-
--- "What a refused call returns is the record that came, byte for byte"
+-- "What a refused call returns is the record that came, byte for byte", whatever the refusal (proofs/Back.antt, `refused_as_it_came`)
 abbrev pub left_of : SessionRecord → ℕ → Session → SessionRecord
 left_of came refused s = cond (eqb refused 0) (record_of s) came
 
@@ -59,20 +50,6 @@ reply_of came r =
       carried = (numbers_of r.outcome).stop.carried;
       steps = r.steps;
     }
-
--- whatever the refusal
-pub refused_as_it_came : (came : SessionRecord) (refusal : Refusal) (steps : ℕ) (s : Session) → (reply_of came (record { outcome = Outcome.Refused refusal; steps = steps; session = s })).session ≡ came
-refused_as_it_came came Refusal.CodeLength steps s = refl
-refused_as_it_came came Refusal.WindowLength steps s = refl
-refused_as_it_came came Refusal.WindowPlace steps s = refl
-refused_as_it_came came Refusal.ZeroRegister steps s = refl
-refused_as_it_came came Refusal.Budget steps s = refl
-refused_as_it_came came Refusal.Total steps s = refl
-refused_as_it_came came Refusal.NoSyscall steps s = refl
-refused_as_it_came came Refusal.FileKind steps s = refl
-refused_as_it_came came Refusal.FileCut steps s = refl
-refused_as_it_came came Refusal.FileExtra steps s = refl
-refused_as_it_came came Refusal.BufferLength steps s = refl
 
 abbrev pub written_of : Written → WrittenRecord
 written_of w = record { refused = refused_of w.verdict; length = w.len }

@@ -1,5 +1,8 @@
 // The records that cross to C: plain numbers only, since a caller in C can hand in any byte. And the way from them to the core's types and
 // back.
+
+#![tactic(auto)]
+
 ghost use Rattle.std.specs.Prelude.{◌≡◌};
 ghost use Rattle.records.specs.Records.{note_of, session_of, record_of, left_of, reply_of, written_of, reading_of};
 
