@@ -1,6 +1,9 @@
 // The calls that C and Rust servers link: each unpacks its records, calls the proved core, and packs what that returns. A prefix, since a
 // name is the whole program's, as in C. Decoding is in an archive of its own: a second caller of the decoder in this one would keep it out
 // of the run's loop.
+
+#![tactic(auto)]
+
 ghost use Rattle.qhobuziya_host.specs.Exports.{RunsRecord, AnswersRecord, WritesRecord, ReadsRecord};
 
 use place::{ArenaOffset, Window};
