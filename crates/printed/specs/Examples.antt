@@ -1,5 +1,6 @@
--- 01's sentences on what is printed, each on a whole text. All rows stand under one theorem, whose proof is "compute both sides".
-use Rattle.std.specs.Prelude.{ℕ, ◌≡◌, refl, List, [], ◌∷◌, map}
+-- 01's sentences on what is printed, each on a whole text. All rows stand under one theorem, whose proof is "compute both sides"
+-- (proofs/Examples.antt, `as_typed`).
+use Rattle.std.specs.Prelude.{ℕ, List, [], ◌∷◌}
 use Prim.Native.String.{String}
 use Rattle.fault.specs.declared.Fault.{Fault}
 use Rattle.session.specs.declared.Note.{Note}
@@ -8,8 +9,6 @@ use Rattle.session.specs.declared.Refusal.TheVariants.{CodeLength, BufferLength}
 use Rattle.session.specs.declared.Outcome.{Outcome}
 use Rattle.session.specs.declared.Reply.{Reply}
 use Rattle.session.specs.Registers.{Value, r, registers}
-use Rattle.printed.specs.Digits.{ascii, digits, places, decimal, hex16}
-use Rattle.printed.specs.Lines.{counted, valued, count_line, numbers_line, stop_line, register_line, register_lines, state_lines, outcome_lines, printed_of}
 
 abbrev reply : Outcome → ℕ → ℕ → List Value → Reply
 reply o steps pc xs =
@@ -43,7 +42,3 @@ rows =
     ∷ row (reply Outcome.Answered 0 0x1000c (r 4 7 ∷ []))
     "answered\nsteps 0\npc 000000000001000c\nr4 0000000000000007\n"
     ∷ []
-
-pub as_typed : map (λ (x : Row). printed_of x.given) rows ≡ map (λ (x : Row). ascii x.text) rows
-unfolding digits places decimal hex16 counted valued count_line numbers_line stop_line register_line register_lines state_lines outcome_lines
-as_typed = refl

@@ -1,4 +1,7 @@
 // What the bench program prints of a reply, as bytes on a page that the caller lends.
+
+#![tactic(auto)]
+
 ghost use Rattle.std.specs.Prelude.{◌≡◌, ◌+◌, ◌≤◌, ◌<◌, length};
 ghost use Rattle.printed.specs.Digits.{glyph_of, digits, places as places_of, decimal, hex16};
 ghost use Rattle.printed.specs.Lines.{counted, valued, numbers_line, stop_line, count_line, register_line, register_lines, state_lines, outcome_lines};
