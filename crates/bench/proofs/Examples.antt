@@ -1,5 +1,5 @@
 -- The rows of specs/Examples come out as typed: "compute both sides".
-use Rattle.std.specs.Prelude.{ℕ, ◌≡◌, refl, List, [], ◌∷◌, map}
+use Rattle.std.specs.Prelude.{◌≡◌, refl, map}
 use Rattle.place.specs.Place.{fetch_place_of}
 use Rattle.byte_order.specs.Bytes.{get_le}
 use Rattle.alu.specs.Immediate.{immediate_of}

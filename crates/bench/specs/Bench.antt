@@ -1,6 +1,6 @@
 -- 01: "The bench program reads code bytes from standard input, runs them with all registers 0, pc 0x10000, total 0, a 64-byte zero
 -- window, budget 1,000."
-use Rattle.std.specs.Prelude.{ℕ, List, [], replicate}
+use Rattle.std.specs.Prelude.{ℕ, List, replicate}
 use Rattle.place.specs.declared.Window.{Window}
 use Rattle.apply.specs.Machine.{ground_on}
 use Rattle.session.specs.declared.Reply.{Reply}
