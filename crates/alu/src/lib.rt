@@ -2,7 +2,7 @@
 
 #![tactic(auto)]
 
-ghost use Rattle.std.specs.Prelude.{◌≡◌, cond};
+ghost use Rattle.std.specs.Prelude.{◌≡◌};
 ghost use Rattle.alu.specs.Alu.{alu_of};
 ghost use Rattle.alu.specs.Immediate.{immediate_of};
 ghost use Rattle.alu.specs.Upper.{upper_of};
@@ -60,13 +60,7 @@ pub enum Alsl {
     AlslD,
 }
 
-// x, or 0.
-fn kept(keep: bool, x: u64) -> u64
-    ensures { result ≡ cond keep x 0 }
-{
-    if keep { x } else { 0 }
-}
-
+#[tactic(auto, unfolding(crate::specs::Alu::alu_of))]
 pub fn alu_value(op: Alu, rj: u64, rk: u64) -> u64
     ensures { result ≡ alu_of op rj rk }
 {
@@ -75,19 +69,20 @@ pub fn alu_value(op: Alu, rj: u64, rk: u64) -> u64
         Alu::AddD => word::add_d(rj, rk),
         Alu::SubW => word::sign_extend(word::sub_d(rj, rk), 32),
         Alu::SubD => word::sub_d(rj, rk),
-        Alu::Slt => kept(word::less_than(rj, rk), 1),
-        Alu::Sltu => kept(rj < rk, 1),
+        Alu::Slt => word::less_than(rj, rk) as u64,
+        Alu::Sltu => (rj < rk) as u64,
         Alu::And => rj & rk,
         Alu::Or => rj | rk,
         Alu::Nor => !(rj | rk),
         Alu::Xor => rj ^ rk,
         Alu::Andn => rj & !rk,
         Alu::Orn => rj | !rk,
-        Alu::Maskeqz => kept(rk != 0, rj),
-        Alu::Masknez => kept(rk == 0, rj),
+        Alu::Maskeqz => if rk == 0 { 0 } else { rj },
+        Alu::Masknez => if rk == 0 { rj } else { 0 },
     }
 }
 
+#[tactic(auto, unfolding(crate::specs::Immediate::immediate_of))]
 pub fn immediate_value(op: Immediate, rj: u64, imm: u32) -> u64
     ensures { result ≡ immediate_of op rj imm }
 {
@@ -96,8 +91,8 @@ pub fn immediate_value(op: Immediate, rj: u64, imm: u32) -> u64
         Immediate::AddiW => word::sign_extend(word::add_d(rj, word::sign_extend(field, 12)), 32),
         Immediate::AddiD => word::add_d(rj, word::sign_extend(field, 12)),
         Immediate::Addu16iD => word::add_d(rj, word::sign_extend(field * 0x1_0000, 32)),
-        Immediate::Slti => kept(word::less_than(rj, word::sign_extend(field, 12)), 1),
-        Immediate::Sltui => kept(rj < word::sign_extend(field, 12), 1),
+        Immediate::Slti => word::less_than(rj, word::sign_extend(field, 12)) as u64,
+        Immediate::Sltui => (rj < word::sign_extend(field, 12)) as u64,
         Immediate::Lu52iD => field % 0x1000 * 0x10_0000_0000_0000 + rj % 0x10_0000_0000_0000,
         Immediate::Andi => rj & (field % 0x1000),
         Immediate::Ori => rj | (field % 0x1000),
@@ -105,6 +100,7 @@ pub fn immediate_value(op: Immediate, rj: u64, imm: u32) -> u64
     }
 }
 
+#[tactic(auto, unfolding(crate::specs::Upper::upper_of))]
 pub fn upper_value(op: Upper, rd: u64, pc: u64, si20: u32) -> u64
     ensures { result ≡ upper_of op rd pc si20 }
 {
@@ -123,13 +119,14 @@ pub fn upper_value(op: Upper, rd: u64, pc: u64, si20: u32) -> u64
     }
 }
 
+#[tactic(auto, using(crate::proofs::Words::word_scaled, word::proofs::Extends::sext_same), unfolding(crate::specs::Alsl::alsl_of))]
 pub fn alsl_value(op: Alsl, rj: u64, rk: u64, sa2: u32) -> u64
     ensures { result ≡ alsl_of op rj rk sa2 }
 {
     let sum = word::add_d(rj << (sa2 % 4 + 1), rk);
     match op {
         Alsl::AlslW => word::sign_extend(sum, 32),
-        Alsl::AlslWu => sum % 0x1_0000_0000,
+        Alsl::AlslWu => word::low_word(sum) as u64,
         Alsl::AlslD => sum,
     }
 }

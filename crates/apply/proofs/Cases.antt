@@ -1,6 +1,7 @@
 -- What an effect comes to is one of four: it raises, it writes a register, it only goes on, or it stores in the window. What holds of these
 -- four holds of every effect.
 use mathlib.Core.Path.{◌≡◌, refl}
+use Rattle.std.specs.Prelude.{Result, Ok, Err}
 use Prim.Native.Nat.{ℕ, ◌+◌, ◌≤◌}
 use Rattle.place.specs.declared.ArenaOffset.{ArenaOffset}
 use Rattle.place.specs.declared.GuestAddr.{GuestAddr}
@@ -12,7 +13,6 @@ use Rattle.fault.specs.declared.Fault.{Fault}
 use Rattle.memory.specs.Memory.{load_width_of, loaded_of, stored_of}
 use Rattle.operate.specs.Operate.{next_of}
 use Rattle.effect.specs.declared.Effect.{Effect}
-use Rattle.apply.specs.declared.Access.{Access}
 use Rattle.apply.specs.Machine.{State, Ended, with_pc, with_regs, with_arena, done, raised}
 use Rattle.apply.specs.Apply.{load_of, store_of, access_of, apply_of}
 use Rattle.apply.proofs.Accesses.{access_inside}
@@ -29,12 +29,12 @@ module _ (P : Ended → Type 0) (w : Window) (s : State)
   of_effect (Effect.Jump to) = going to
   of_effect (Effect.Load kind rd a) = load (access_of w a (load_width_of kind))
     where
-      load : (x : Access) → P (load_of x kind rd s)
-      load (Access.At o) = writing rd (loaded_of kind o s.arena) (next_of s.pc)
-      load (Access.Denied f) = raising f
+      load : (x : Result ArenaOffset Fault) → P (load_of x kind rd s)
+      load (Ok o) = writing rd (loaded_of kind o s.arena) (next_of s.pc)
+      load (Err f) = raising f
   of_effect (Effect.Store k v a) = store (access_of w a k) refl
     where
-      store : (x : Access) → access_of w a k ≡ x → P (store_of x k v s)
-      store (Access.At o) e = let i = access_inside w a k o e in storing k o v i.0 i.1
-      store (Access.Denied f) e = raising f
+      store : (x : Result ArenaOffset Fault) → access_of w a k ≡ x → P (store_of x k v s)
+      store (Ok o) e = let i = access_inside w a k o e in storing k o v i.0 i.1
+      store (Err f) e = raising f
   of_effect (Effect.Raise f) = raising f

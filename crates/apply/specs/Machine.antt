@@ -1,10 +1,9 @@
 -- The machine's state in two records: what a run stands on and does not change, and what a step changes; and how a step ended. No other file of
 -- definitions lists the fields. Elsewhere the records are passed on whole, a field is read by its name, and a state is changed by a setter.
-use Rattle.std.specs.Prelude.{ℕ, ◌≡◌, List}
+use Rattle.std.specs.Prelude.{ℕ, ◌≡◌, List, Result, Ok, Err}
 use Rattle.place.specs.declared.GuestAddr.{GuestAddr}
 use Rattle.place.specs.declared.Window.{Window}
 use Rattle.fault.specs.declared.Fault.{Fault}
-use Rattle.apply.specs.declared.End.{End}
 use Rattle.apply.specs.declared.Stepped.{Stepped}
 
 -- What a run stands on: the code's bytes, and the window, an offset and a length in the arena (01, "The guest machine", house map).
@@ -42,17 +41,21 @@ with_arena arena s = state s.regs s.pc arena
 abbrev pub Sets : {R F : Type 0} → (R → F) → (F → R → R) → Type 0
 Sets {R} {F} field setter = (x : F) (r : R) → (field (setter x r) ≡ x) × (setter (field r) r ≡ r)
 
--- How a step ended, and the state that it leaves.
+-- How a step ended: it is done, or a fault was raised
+abbrev pub End : Type 0
+End = Result (Unit {0}) Fault
+
+-- and the state that it leaves
 pub record Ended : Type 0 where
   pub end : End
   pub state : State
 
 abbrev pub done : State → Ended
-done s = record { end = End.Done; state = s }
+done s = record { end = Ok tt; state = s }
 
 -- "A raising instruction changes nothing, pc included": the state is the one before it
 abbrev pub raised : Fault → State → Ended
-raised f s = record { end = End.Raised f; state = s }
+raised f s = record { end = Err f; state = s }
 
 -- what `step` returns of it: all but the arena, which it writes in place
 abbrev pub stepped_of : Ended → Stepped

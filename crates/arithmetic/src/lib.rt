@@ -5,47 +5,29 @@
 
 ghost use Rattle.std.specs.Prelude.{◌≡◌, ◌/◌, ◌^◌};
 ghost use Rattle.opcode.specs.Decode.{decode_of};
-ghost use Rattle.arithmetic.specs.Found.{immediate12, double_field};
 
 use alu::Immediate;
 use fields::Field;
-use isa::{Decoded, Instruction};
-
-// A bit field of a double word: msb is not below lsb.
-fn double_field(op: Field, word: u32) -> Decoded
-    ensures { result ≡ double_field op word }
-{
-    isa::only_if(
-        operands::field_d_exists(word),
-        Instruction::Field(op, operands::of_field_d(word)),
-    )
-}
-
-// An operation with an immediate of 12 bits.
-fn immediate(op: Immediate, word: u32) -> Decoded
-    ensures { result ≡ immediate12 op word }
-{
-    Decoded::Known(Instruction::Immediate(op, operands::of_r2i12(word)))
-}
+use isa::Instruction;
 
 // Words that begin with six zeros.
-pub fn zeros(word: u32) -> Decoded
+pub fn zeros(word: u32) -> Option<Instruction>
     requires { word / 2 ^ 26 ≡ 0 }
     ensures { result ≡ decode_of word }
 {
     match word / 0x40_0000 {
         0x0 => register_words::registers(word),
         0x1 => short_immediates::short_immediates(word),
-        0xa => immediate(Immediate::AddiW, word),
-        0xb => immediate(Immediate::AddiD, word),
-        0x8 => immediate(Immediate::Slti, word),
-        0x9 => immediate(Immediate::Sltui, word),
-        0xc => immediate(Immediate::Lu52iD, word),
-        0xd => immediate(Immediate::Andi, word),
-        0xe => immediate(Immediate::Ori, word),
-        0xf => immediate(Immediate::Xori, word),
-        0x2 => double_field(Field::BstrinsD, word),
-        0x3 => double_field(Field::BstrpickD, word),
-        _ => Decoded::Unknown,
+        0xa => Some(Instruction::Immediate(Immediate::AddiW, operands::of_r2i::<12>(word))),
+        0xb => Some(Instruction::Immediate(Immediate::AddiD, operands::of_r2i::<12>(word))),
+        0x8 => Some(Instruction::Immediate(Immediate::Slti, operands::of_r2i::<12>(word))),
+        0x9 => Some(Instruction::Immediate(Immediate::Sltui, operands::of_r2i::<12>(word))),
+        0xc => Some(Instruction::Immediate(Immediate::Lu52iD, operands::of_r2i::<12>(word))),
+        0xd => Some(Instruction::Immediate(Immediate::Andi, operands::of_r2i::<12>(word))),
+        0xe => Some(Instruction::Immediate(Immediate::Ori, operands::of_r2i::<12>(word))),
+        0xf => Some(Instruction::Immediate(Immediate::Xori, operands::of_r2i::<12>(word))),
+        0x2 => short_immediates::bit_field::<6>(Field::BstrinsD, word),
+        0x3 => short_immediates::bit_field::<6>(Field::BstrpickD, word),
+        _ => None,
     }
 }

@@ -8,12 +8,13 @@ ghost use Rattle.effect.specs.Effect.{effect_of};
 use bit_values::{bytepick_of, config_of, field_of, shift_immediate_of, shift_of, unary_of};
 use effect::{Effect, assert_of, jump_of, pointer_of, trap_of};
 use isa::Instruction;
-use memory::store_width;
+use memory::Transfer;
 use number_values::{alsl_of, alu_of, division_of, immediate_of, product_of, upper_of};
 use operate::{at_index, at_offset, branch_to, zero_branch_to};
 use place::GuestAddr;
 use registers::get;
 
+#[tactic(auto, unfolding(effect::specs::Effect::effect_of))]
 pub fn ask(i: Instruction, regs: &[u64; 32], pc: GuestAddr) -> Effect
     ensures { result ≡ effect_of i regs.now pc }
 {
@@ -38,10 +39,10 @@ pub fn ask(i: Instruction, regs: &[u64; 32], pc: GuestAddr) -> Effect
         Instruction::Load(op, o) => Effect::Load(op, o.rd, at_offset(o, regs)),
         Instruction::LoadIndexed(op, o) => Effect::Load(op, o.rd, at_index(o, regs)),
         Instruction::Store(op, o) => {
-            Effect::Store(store_width(op), get(regs, o.rd), at_offset(o, regs))
+            Effect::Store(op.width(), get(regs, o.rd), at_offset(o, regs))
         }
         Instruction::StoreIndexed(op, o) => {
-            Effect::Store(store_width(op), get(regs, o.rd), at_index(o, regs))
+            Effect::Store(op.width(), get(regs, o.rd), at_index(o, regs))
         }
         Instruction::Pointer(op, o) => pointer_of(op, o, regs, pc),
         Instruction::Preload(_, _) => Effect::Jump(next),

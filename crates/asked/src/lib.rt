@@ -8,14 +8,13 @@ ghost use Rattle.asked.specs.Asked.{asked_of};
 
 use effect::Effect;
 use fault::Fault;
-use isa::Decoded;
 use place::GuestAddr;
 
 pub fn of_word(word: u32, regs: &[u64; 32], pc: GuestAddr) -> Effect
     ensures { result ≡ asked_of (decode_of word) word regs.now pc }
 {
     match decoder::decode(word) {
-        Decoded::Known(i) => ask::ask(i, regs, pc),
-        Decoded::Unknown => Effect::Raise(Fault::Ine(word)),
+        Some(i) => ask::ask(i, regs, pc),
+        None => Effect::Raise(Fault::Ine(word)),
     }
 }

@@ -1,4 +1,5 @@
 // Shifts, bits and CPUCFG on their operands: the registers and fields that each family takes, and what it makes of them.
+// A function for each family, and no trait over the families: an impl for each would name the same value function again, in more lines.
 
 #![tactic(auto)]
 

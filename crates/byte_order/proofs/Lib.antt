@@ -1,3 +1,4 @@
 pub mod Numbers
 pub mod Stands
 pub mod Joined
+mod Parts

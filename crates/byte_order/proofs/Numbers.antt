@@ -85,10 +85,3 @@ get_put (suc n) at v s h =
     let p : v % (256 ^ n * 256) ≡ (v / 256 % 256 ^ n) * 256 + v % 256 = mod-mul v (one-le-pow n 256 (lit< tt)) (lit< tt) in
     let q : 256 ^ suc n ≡ 256 ^ n * 256 = pow-succ' 256 n ∙ mul_comm 256 (256 ^ n) in
     rw (b, r, q, p) (omega arith)
-
--- a number from its two halves, as the code has them
-pub get_halves : (m at : ℕ) (s : List ℕ) (a b : ℕ) → a ≡ get_le m at s → b ≡ get_le m (at + m) s → a + b * 256 ^ m ≡ get_le (m + m) at s
-get_halves m at s a b p q = rw (get_join m m at s, p, q) (ap (λ (x : ℕ). get_le m at s + x) (mul_comm (get_le m (at + m) s) (256 ^ m)))
-
-pub put_halves : (m at v : ℕ) (s t u : List ℕ) → t ≡ put_le m at v s → u ≡ put_le m (at + m) (v / 256 ^ m) t → u ≡ put_le (m + m) at v s
-put_halves m at v s t u p q = q ∙ ap (put_le m (at + m) (v / 256 ^ m)) p ∙ sym (put_join m m at v s)

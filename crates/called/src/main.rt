@@ -13,130 +13,97 @@
 // All else is a pattern that `given` and `report` make, and must not change, but that an accepted answer puts its value in register 4.
 #![tactic(auto)]
 
-mod differ;
 mod given;
-mod tally;
 
-use report::Held;
-use session::Reply;
+use given::{ARENA, CODE, Given, LINE, NOTE};
+use report::case::Case;
+use report::counts::Counts;
+use report::lines;
+use report::lines::{Line, Lines};
+use session::{Note, Numbers, Reply, Session};
 use std::io;
-use std::io::Read;
-
-// The longest code that a case lends, a word more than is allowed, and an arena with room beside the largest window.
-const CODE: usize = 65540;
-
-const ARENA: usize = 65600;
 
 // Makes a line's call.
-fn reply(line: &[u8], code: &[u8], arena: &mut [u8]) -> Reply {
-    let session = given::session(line);
-    let value = given::budget_or_value(line);
-    if given::is_answer(line) {
-        return service::answer(code, session, value);
+fn reply(given: &Given, code: &[u8], arena: &mut [u8]) -> Reply {
+    if given.is_answer {
+        service::answer(code, given.session, given.number)
+    } else {
+        host::run(code, arena, given.window, given.session, given.number)
     }
-    let window = given::window(line);
-    host::run(code, arena, window, session, value)
 }
 
-// Prints what is not as the line says, but for the arena, of which it is told.
-fn compare(rt: &impl Print, number: u64, line: &[u8], r: Reply, bytes: bool) -> io::Result<Held> {
-    let outcome = r.outcome;
-    let session = r.session;
-    let found = session::tell(outcome);
-    let numbers = differ::numbers(rt, number, line, found)?;
-    let steps = differ::field(rt, number, line, 150, 5, r.steps)?;
-    let after = differ::session(rt, number, line, session)?;
-    Ok(Held {
-        refused: found.refused != 0,
-        differs: numbers | steps | after | bytes,
-    })
+// Part 0 says whether there is a note.
+fn compare_note<P: Print>(case: &mut Case<'_, P>, found: Option<Note>) -> io::Result<()> {
+    let Some(note) = found else {
+        return case.one_of("note, part", 0, 0, 1);
+    };
+    case.one_of("note, part", 1, note.low, NOTE.low)?;
+    case.one_of("note, part", 2, note.high, NOTE.high)
 }
 
-// Gives a line's call as much of the arena as the line says.
-fn hold_with(
-    rt: &impl Print,
-    number: u64,
-    line: &[u8],
-    code: &[u8],
-    arena: &mut [u8],
-) -> io::Result<Held> {
-    let len = given::arena_length(line);
-    report::fill(arena, 0);
-    if len > arena.len() {
-        return report::no_case(rt, number);
-    }
-    let r = reply(line, code, &mut arena[0..len]);
-    let bytes = differ::arena(rt, number, arena)?;
-    compare(rt, number, line, r, bytes)
+fn compare_session<P: Print>(
+    case: &mut Case<'_, P>,
+    found: Session,
+    registers: &[u64; 32],
+) -> io::Result<()> {
+    case.registers(&found.regs, registers)?;
+    case.column(found.pc.0, 156, 16)?;
+    case.column(found.total, 173, 16)?;
+    compare_note(case, found.note)
 }
 
-// Gives a line's call as much code as the line says.
-fn hold(
-    rt: &impl Print,
-    number: u64,
-    line: &[u8],
-    code: &mut [u8],
-    arena: &mut [u8],
-) -> io::Result<Held> {
-    let len = given::code_length(line);
-    if len > code.len() || !given::well_made(line) {
-        return report::no_case(rt, number);
-    }
-    given::fill_code(&mut code[0..len], given::word(line));
-    hold_with(rt, number, line, &code[0..len], arena)
+// Prints what is not as the line says, but for the arena.
+fn compare<P: Print>(case: &mut Case<'_, P>, given: &Given, r: Reply) -> io::Result<()> {
+    let Numbers { refused, stop } = Numbers::from(r.outcome);
+    case.refused = refused != 0;
+    case.column(refused, 125, 1)?;
+    case.column(stop.ecode, 127, 2)?;
+    case.column(stop.subcode, 130, 2)?;
+    case.column(stop.carried, 133, 16)?;
+    case.column(r.steps, 150, 5)?;
+    compare_session(case, r.session, &given.registers_after)
 }
 
-// A line taken: whether there was one, whether it is an answer, and what came of it.
-#[derive(Clone, Copy)]
-struct Taken {
-    more: bool,
-    answer: bool,
-    held: Held,
-}
-
-fn take_line<R: Read>(
-    rt: &impl Print,
-    input: &mut R,
-    number: u64,
+// Gives a line's call as much code and arena as the line says, and compares. Every byte of the arena's buffer has to be as before,
+// also past the arena that the call was lent.
+fn hold<P: Print>(
+    case: &mut Case<'_, P>,
+    given: &Given,
     code: &mut [u8; CODE],
     arena: &mut [u8; ARENA],
-) -> io::Result<Taken> {
-    let mut line = [0u8; given::LINE];
-    let n = report::read_full(input, &mut line)?;
-    if n == given::LINE {
-        return Ok(Taken {
-            more: true,
-            answer: given::is_answer(&line),
-            held: hold(rt, number, &line, code, arena)?,
-        });
-    }
-    if n != 0 {
-        report::print_cut(rt)?;
-    }
-    Ok(Taken {
-        more: false,
-        answer: false,
-        held: tally::nothing(),
-    })
+) -> io::Result<()> {
+    let word = given.word.to_le_bytes();
+    let lent = &mut code[..given.code_length];
+    report::fill_with(lent, |i| word[i % 4]);
+    report::fill_with(arena, report::pattern);
+    let r = reply(given, lent, &mut arena[..given.arena_length]);
+    case.bytes("arena byte", arena, report::pattern)?;
+    compare(case, given, r)
 }
 
-// A proved loop has to end, and nothing says that the input does: so the turns are counted down from a number that no run uses up.
+// A proved loop has to end, and nothing says that the input does: so the lines are numbered up to a number that no run reaches.
 fn main(rt: HostRuntime) -> io::Result<()> {
-    let mut input = rt.reader();
     let mut code = [0u8; CODE];
     let mut arena = [0u8; ARENA];
-    let mut t = tally::none();
-    let mut turns = u64::MAX;
-    while turns > 0 {
-        let number = u64::MAX - turns + 1;
-        let s = take_line(&rt, &mut input, number, &mut code, &mut arena)?;
-        if s.more {
-            let held = s.held;
-            t = tally::count(t, s.answer, held);
-            turns -= 1;
-        } else {
-            turns = 0;
+    let mut runs = Counts::default();
+    let mut answers = Counts::default();
+    for (number, line) in (1..u64::MAX).zip(Lines::<_, LINE>::new(rt.reader())) {
+        let Line::Whole(line) = line? else {
+            lines::print_cut(&rt)?;
+            break;
+        };
+        let mut case = Case::new(&rt, number, &line);
+        match Given::of(&line) {
+            Some(given) => hold(&mut case, &given, &mut code, &mut arena)?,
+            None => case.no_case()?,
         }
+        let counts = if given::is_answer(&line) {
+            &mut answers
+        } else {
+            &mut runs
+        };
+        counts.count(&case);
     }
-    tally::print_totals(&rt, t)
+    runs.print(&rt, "run", "cases")?;
+    answers.print(&rt, "answer", "cases")
 }

@@ -15,41 +15,22 @@ const RECORD: usize = 37;
 // Where the account begins that the module runs for: number 2.
 pub const OWN: usize = HEAD + 2 * SLOT;
 
-// Byte i of an account's 40.
-fn slot_byte(account: usize, i: usize) -> u8 {
-    match account {
-        0 => text::byte(b"0 Sipho zone 1, 06:58; zone 4, 17:02; | ", i),
-        1 => text::byte(b"1 Nomsa zone 2, 05:31; zone 2, 14:20; | ", i),
-        2 => text::byte(b"2 Thabo zone 5, 07:12; zone 6, 16:44; | ", i),
-        3 => text::byte(b"3 Mbali zone 3, 07:41; zone 1, 18:09; | ", i),
-        4 => text::byte(b"4 Bheki zone 1, 08:15; zone 3, 12:37; | ", i),
-        5 => text::byte(b"5 Lindi zone 4, 06:03; zone 2, 15:50; | ", i),
-        _ => text::byte(b"6 Tumi  zone 2, 09:26; zone 4, 19:33; | ", i),
-    }
-}
-
-// Byte i of the arena.
-fn byte(i: usize) -> u8 {
-    if i < HEAD {
-        return text::byte(b"fare:", i);
-    }
-    let d = i - HEAD;
-    slot_byte(d / SLOT, d % SLOT)
-}
-
-pub fn fill(arena: &mut [u8]) {
-    for i in 0usize..arena.len() {
-        arena[i] = byte(i);
-    }
-}
+pub static ARENA: [u8; LEN] = *b"fare:\
+    0 Sipho zone 1, 06:58; zone 4, 17:02; | \
+    1 Nomsa zone 2, 05:31; zone 2, 14:20; | \
+    2 Thabo zone 5, 07:12; zone 6, 16:44; | \
+    3 Mbali zone 3, 07:41; zone 1, 18:09; | \
+    4 Bheki zone 1, 08:15; zone 3, 12:37; | \
+    5 Lindi zone 4, 06:03; zone 2, 15:50; | \
+    6 Tumi  zone 2, 09:26; zone 4, 19:33; | ";
 
 // How many bytes of the arena are not as they were.
-pub fn changed(arena: &[u8]) -> u64 {
-    let mut n: u64 = 0;
-    for i in 0usize..arena.len() {
-        n = report::more_if(n, arena[i] != byte(i));
-    }
-    n
+pub fn changed(arena: &[u8; LEN]) -> usize {
+    arena
+        .iter()
+        .zip(&ARENA)
+        .filter(|(now, before)| now != before)
+        .count()
 }
 
 // The window of that account, and no other byte.
@@ -62,5 +43,5 @@ pub fn own_window() -> Window {
 
 // Whether the eight bytes from an arena offset on all lie in that window.
 pub fn all_own(at: usize) -> bool {
-    at >= OWN && at <= OWN + RECORD - 8
+    (OWN..=OWN + RECORD - 8).contains(&at)
 }

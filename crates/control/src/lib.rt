@@ -30,19 +30,20 @@ pub fn zero_taken(op: ZeroBranch, rj: u64) -> bool
     }
 }
 
+// Words and bytes have a function each: one over the unit would have callers say 4 or 1, where these say what the manual does.
 // An offset that counts words; with the two zeros that are put below it, it has k bits.
 pub fn words_on(from: GuestAddr, offs: u32, k: u64) -> GuestAddr
     requires { (0 < k) × (k ≤ 64) }
     ensures { result ≡ words_on_of from offs k }
 {
-    place::plus(from, word::sign_extend(offs as u64 * 4, k))
+    from.plus(word::sign_extend(offs as u64 * 4, k))
 }
 
 // An offset of 12 bits that counts bytes.
 pub fn bytes_on(from: GuestAddr, offs: u32) -> GuestAddr
     ensures { result ≡ bytes_on_of from offs }
 {
-    place::plus(from, word::sign_extend(offs as u64, 12))
+    from.plus(word::sign_extend(offs as u64, 12))
 }
 
 pub fn passes(op: Assert, rj: u64, rk: u64) -> bool

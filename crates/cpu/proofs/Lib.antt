@@ -1,3 +1,4 @@
+pub mod Asked
 pub mod Cases
 pub mod Raising
 pub mod Turns

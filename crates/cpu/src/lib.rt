@@ -2,52 +2,43 @@
 
 #![tactic(auto)]
 
-ghost use Rattle.std.specs.Prelude.{◌≡◌, ◌+◌, ◌≤◌, length};
+ghost use Rattle.std.specs.Prelude.{◌≡◌};
+ghost use Rattle.place.specs.Place.{InArena};
 ghost use Rattle.apply.specs.Machine.{ground_on, state};
 ghost use Rattle.apply.specs.Apply.{Meets};
 ghost use Rattle.cpu.specs.Step.{fetch_of, step_of, Steps};
 
-use apply::{End, Stepped, Turned};
+use apply::Stepped;
 use fault::Fault;
-use place::{FetchPlace, GuestAddr, Window};
-
-#[derive(Clone, Copy)]
-pub enum Fetched {
-    Word(u32),
-    Bad,
-}
+use place::{GuestAddr, Window};
 
 // The word at the pc.
-pub fn fetch(code: &[u8], pc: GuestAddr) -> Fetched
+#[tactic(auto, using(place::proofs::Reach::fetched_inside), unfolding(crate::specs::Step::fetch_of))]
+pub fn fetch(code: &[u8], pc: GuestAddr) -> Option<u32>
     ensures { result ≡ fetch_of code.now pc }
 {
-    match place::fetch_place(code.len(), pc) {
-        FetchPlace::At(o) => Fetched::Word(byte_order::get4(code, o.0) as u32),
-        FetchPlace::Outside => Fetched::Bad,
-    }
+    let at = place::fetch_place(code.len(), pc)?;
+    Some(byte_order::get::<4>(code, at.0) as u32)
 }
 
 // A turn of the run's loop, on lent registers. After a fault its promise says nothing of the registers: who calls it keeps a copy.
+#[tactic(auto, using(crate::proofs::Asked::decoded), unfolding(crate::specs::Step::step_of))]
 pub fn turn(
     code: &[u8],
     arena: &mut [u8],
     window: Window,
     regs: &mut [u64; 32],
     pc: GuestAddr,
-) -> Turned
-    requires { window.start.0 + window.len ≤ length arena.old }
+) -> Result<GuestAddr, Fault>
+    requires { InArena window arena.old }
     ensures { Meets result (state regs.new pc arena.new) (step_of (ground_on code.now window) (state regs.old pc arena.old)) }
 {
-    match fetch(code, pc) {
-        Fetched::Word(word) => {
-            let e = asked::of_word(word, regs, pc);
-            apply::apply(arena, window, e, regs, pc)
-        }
-        Fetched::Bad => Turned::Raised(Fault::Adef(pc)),
-    }
+    let word = fetch(code, pc).ok_or(Fault::Adef(pc))?;
+    apply::apply(arena, window, asked::of_word(word, regs, pc), regs, pc)
 }
 
 // A step by value: the array is copied, the copy is what is written, and a raising instruction returns the array as it came.
+#[tactic(auto, using(crate::proofs::Turns::goes_on, crate::proofs::Turns::stops))]
 pub fn step(
     code: &[u8],
     arena: &mut [u8],
@@ -55,20 +46,20 @@ pub fn step(
     regs: [u64; 32],
     pc: GuestAddr,
 ) -> Stepped
-    requires { window.start.0 + window.len ≤ length arena.old }
+    requires { InArena window arena.old }
     ensures { Steps result arena.new (step_of (ground_on code.now window) (state regs pc arena.old)) }
 {
     let mut next = regs;
     match turn(code, arena, window, &mut next, pc) {
-        Turned::On(to) => Stepped {
-            end: End::Done,
+        Ok(to) => Stepped {
+            end: Ok(()),
             regs: next,
             pc: to,
         },
-        Turned::Raised(f) => Stepped {
-            end: End::Raised(f),
-            regs: regs,
-            pc: pc,
+        Err(f) => Stepped {
+            end: Err(f),
+            regs,
+            pc,
         },
     }
 }

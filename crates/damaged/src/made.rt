@@ -1,14 +1,17 @@
 // What a case makes, from document 01's layout alone: a file, the session of a file, and a buffer's bytes before and after a write.
+ghost use Rattle.std.specs.Prelude.{◌<◌};
+
 use crate::given;
 use place::GuestAddr;
 use session::{Note, Session};
+use std::{array, fmt};
 
 // Each byte that is put in after the first one.
 const FILLER: u8 = 238;
 
 // One case of a line: its form and its numbers.
 #[derive(Clone, Copy)]
-pub struct Case {
+pub struct Damage {
     pub note: bool,
     pub place: usize,
     pub count: usize,
@@ -16,15 +19,55 @@ pub struct Case {
     pub rest: usize,
 }
 
-// The case that damages nothing.
-fn unharmed(note: bool) -> Case {
-    Case {
-        note,
-        place: given::whole(note),
-        count: 0,
-        value: 0,
-        rest: given::whole(note),
+impl fmt::Display for Damage {
+    fn fmt<W: fmt::Write>(&self, f: &mut fmt::Formatter<W>) -> fmt::Result {
+        let Damage {
+            place,
+            count,
+            value,
+            ..
+        } = *self;
+        write!(f, "place {place}, count {count}, value {value}")
     }
+}
+
+impl Damage {
+    // Byte i of the case's file.
+    pub fn file_byte(&self, i: usize) -> u8 {
+        match i.checked_sub(self.place) {
+            None => whole_byte(self.note, i),
+            Some(put) if put >= self.count => {
+                whole_byte(self.note, self.rest.wrapping_add(put - self.count))
+            }
+            Some(0) => (self.value % 256) as u8,
+            Some(_) => FILLER,
+        }
+    }
+
+    // The length of the case's file. It wraps for no line that is well made.
+    pub fn length(&self) -> usize {
+        let end = self
+            .place
+            .wrapping_add(self.count)
+            .wrapping_add(whole(self.note));
+        end.wrapping_sub(self.rest)
+    }
+
+    // The session of a write, whose file is the whole one, with the case's count in the byte of register 0 that its value names.
+    pub fn session(&self) -> Session {
+        let mut zero = [0u8; 8];
+        zero[self.value % 8] = (self.count % 256) as u8;
+        let mut file = [0u8; given::ROOM];
+        report::fill_with(&mut file, |i| whole_byte(self.note, i));
+        session(&file, u64::from_le_bytes(zero))
+    }
+}
+
+// The length of an undamaged file.
+pub fn whole(note: bool) -> usize
+    ensures { result < 1000 }
+{
+    if note { 285 } else { 268 }
 }
 
 // Byte i of a whole file: the kinds, and a pattern in the bodies. No plain one reaches 284.
@@ -39,75 +82,32 @@ fn whole_byte(note: bool, i: usize) -> u8 {
     }
 }
 
-// Byte i of a case's file.
-fn file_byte(c: Case, i: usize) -> u8 {
-    if i < c.place {
-        return whole_byte(c.note, i);
-    }
-    let put = i - c.place;
-    if put >= c.count {
-        return whole_byte(c.note, std::num::wrapping_add_usize(c.rest, put - c.count));
-    }
-    if put == 0 {
-        return (c.value % 256) as u8;
-    }
-    FILLER
-}
-
-// The length of a case's file. It wraps for no line that is well made.
-pub fn length(c: Case) -> usize {
-    let put = std::num::wrapping_add_usize(c.place, c.count);
-    let end = std::num::wrapping_add_usize(put, given::whole(c.note));
-    std::num::wrapping_sub_usize(end, c.rest)
-}
-
-pub fn fill_file(file: &mut [u8], c: Case) {
-    for i in 0usize..file.len() {
-        file[i] = file_byte(c, i);
-    }
-}
-
-// The number that eight bytes stand for, the low one first.
+// The number that eight bytes stand for, the low one first. Past the file's end there are zeros.
 fn word(file: &[u8], at: usize) -> u64 {
-    let mut v: u64 = 0;
-    for i in 0usize..8 {
-        let b = text::byte(file, std::num::wrapping_add_usize(at, 7 - i));
-        v = v % 0x0100_0000_0000_0000 * 256 + report::wide(b);
-    }
-    v
+    u64::from_le_bytes(array::from_fn(|i| text::byte(file, at.wrapping_add(i))))
 }
 
 fn registers(file: &[u8], zero: u64) -> [u64; 32] {
-    let mut regs = [zero; 32];
-    for i in 1usize..32 {
-        regs[i] = word(file, 10 + 8 * (i - 1));
+    let mut registers = [zero; 32];
+    for (register, at) in registers[1..].iter_mut().zip((10usize..258).step_by(8)) {
+        *register = word(file, at);
     }
-    regs
-}
-
-fn note(file: &[u8]) -> Note {
-    if text::byte(file, 267) == 4 {
-        return Note::Present(word(file, 268), word(file, 276));
-    }
-    Note::Absent
+    registers
 }
 
 // The session of a good file, but for register 0, which no file has.
 pub fn session(file: &[u8], zero: u64) -> Session {
-    let regs = registers(file, zero);
-    let kept = note(file);
+    let has_note = text::byte(file, 267) == 4;
+    let note = Note {
+        low: word(file, 268),
+        high: word(file, 276),
+    };
     Session {
-        regs: regs,
+        regs: registers(file, zero),
         pc: GuestAddr(word(file, 1)),
         total: word(file, 259),
-        note: kept,
+        note: has_note.then_some(note),
     }
-}
-
-// The session of a write, whose file is the whole one. That is put in the buffer for the time.
-pub fn whole_session(buffer: &mut [u8], c: Case) -> Session {
-    fill_file(buffer, unharmed(c.note));
-    session(buffer, register_zero(c))
 }
 
 // The session of a refused read.
@@ -116,31 +116,20 @@ pub fn nothing() -> Session {
         regs: [0; 32],
         pc: GuestAddr(0),
         total: 0,
-        note: Note::Absent,
+        note: None,
     }
 }
 
-// Register 0 of a write: the case's count in the byte that its value names.
-fn register_zero(c: Case) -> u64 {
-    let mut bytes = [0u8; 8];
-    let at = c.value % 8;
-    bytes[at] = (c.count % 256) as u8;
-    word(&bytes, 0)
-}
-
 // Byte i of a buffer before a write. It is not the byte that a whole file has there.
-fn buffer_byte(i: usize) -> u8 {
+pub fn buffer_byte(i: usize) -> u8 {
     report::pattern(i % 251 + 1)
-}
-
-pub fn fill_buffer(buffer: &mut [u8]) {
-    report::fill(buffer, 1);
 }
 
 // Byte i of a buffer after a write of a length, which is 0 for one that is refused.
 pub fn written_byte(note: bool, len: usize, i: usize) -> u8 {
     if i < len {
-        return whole_byte(note, i);
+        whole_byte(note, i)
+    } else {
+        buffer_byte(i)
     }
-    buffer_byte(i)
 }

@@ -18,191 +18,155 @@
 // What differs is printed with its line's number, `row` below, and then the place, count and value of the case.
 #![tactic(auto)]
 
-mod differ;
 mod given;
 mod made;
-mod tally;
 
-use file::Written;
-use given::ROOM;
-use made::Case;
-use report::{Counts, Held};
-use session::Session;
+use file::{FileRefusal, Reading};
+use given::{Given, LINE, ROOM};
+use made::Damage;
+use report::case::Case;
+use report::counts::Counts;
+use report::lines::{Line, Lines};
+use session::{Note, Session};
 use std::io;
-use tally::Tally;
 
-fn wanted_session(line: &[u8], file: &[u8]) -> Session {
-    if given::number(line) == 0 {
-        return made::session(file, 0);
+// A note as numbers: whether there is one, and its two parts.
+fn note_parts(note: Option<Note>) -> [u64; 3] {
+    match note {
+        None => [0; 3],
+        Some(Note { low, high }) => [1, low, high],
     }
-    made::nothing()
 }
 
-fn read(rt: &impl Print, row: u64, line: &[u8], file: &[u8]) -> io::Result<Held> {
-    let r = reader::read(file);
-    let verdict = r.verdict;
-    let found = r.session;
-    let number = refuse::number(verdict);
-    let numbers = differ::numbers(rt, row, line, b"offset", number, r.offset)?;
-    let session = differ::session(rt, row, found, wanted_session(line, file))?;
-    Ok(Held {
-        refused: number != 0,
-        differs: numbers | session,
-    })
-}
-
-// A well-made line has no file that is too long: the test tells the prover so.
-fn read_made(rt: &impl Print, row: u64, line: &[u8], c: Case, room: &mut [u8]) -> io::Result<Held> {
-    made::fill_file(room, c);
-    let len = made::length(c);
-    if len > room.len() {
-        return report::no_case(rt, row);
+fn compare_session<P: Print>(
+    case: &mut Case<'_, P>,
+    found: Session,
+    wanted: Session,
+) -> io::Result<()> {
+    case.registers(&found.regs, &wanted.regs)?;
+    case.value("pc", found.pc.0, wanted.pc.0)?;
+    case.value("total", found.total, wanted.total)?;
+    let parts = note_parts(found.note);
+    for (i, (f, w)) in parts.iter().zip(note_parts(wanted.note)).enumerate() {
+        case.one_of("note, part", i, *f, w)?;
     }
-    read(rt, row, line, &room[0..len])
+    Ok(())
 }
 
-fn compare_written(
-    rt: &impl Print,
-    row: u64,
-    line: &[u8],
-    w: Written,
-    buffer: &[u8],
-) -> io::Result<Held> {
-    let verdict = w.verdict;
-    let number = refuse::number(verdict);
-    let numbers = differ::numbers(rt, row, line, b"length", number, w.len)?;
-    let bytes = differ::buffer(rt, row, line, buffer)?;
-    Ok(Held {
-        refused: number != 0,
-        differs: numbers | bytes,
-    })
+// The refusal's number, 0 for none, and the offset or the length.
+fn compare_numbers<P: Print>(
+    case: &mut Case<'_, P>,
+    given: &Given,
+    refusal: u64,
+    what: &str,
+    offset: usize,
+) -> io::Result<()> {
+    case.refused = refusal != 0;
+    case.decimal("refusal", refusal, given.refusal)?;
+    case.decimal(what, offset as u64, given.offset as u64)
 }
 
-// The buffer's length is tested as that of a file is.
-fn write(rt: &impl Print, row: u64, line: &[u8], c: Case, buffer: &mut [u8]) -> io::Result<Held> {
-    let session = made::whole_session(buffer, c);
-    made::fill_buffer(buffer);
-    let len = c.place;
-    if len > buffer.len() {
-        return report::no_case(rt, row);
-    }
-    let w = writer::write(session, &mut buffer[0..len]);
-    compare_written(rt, row, line, w, buffer)
-}
-
-fn hold(rt: &impl Print, row: u64, line: &[u8], c: Case) -> io::Result<Held> {
-    let mut room = [0u8; ROOM];
-    let held = if given::is_write(line) {
-        write(rt, row, line, c, &mut room)?
-    } else {
-        read_made(rt, row, line, c, &mut room)?
+fn read<P: Print>(case: &mut Case<'_, P>, given: &Given, file: &[u8]) -> io::Result<()> {
+    let (refusal, offset, found) = match reader::read(file) {
+        Ok(Reading { session, offset }) => (0, offset, session),
+        Err(FileRefusal { refusal, offset }) => (u64::from(refusal), offset, Session::fresh()),
     };
-    if held.differs {
-        differ::print_case(rt, row, c)?;
-    }
-    Ok(held)
+    let wanted = match given.refusal {
+        0 => made::session(file, 0),
+        _ => made::nothing(),
+    };
+    compare_numbers(case, given, refusal, "offset", offset)?;
+    compare_session(case, found, wanted)
 }
 
-fn each_value(
-    rt: &impl Print,
-    row: u64,
-    line: &[u8],
-    place: usize,
-    count: usize,
-    before: Counts,
-) -> io::Result<Counts> {
-    let mut counts = before;
-    for value in given::three(line, 20)..given::three(line, 24) + 1 {
-        let c = Case {
-            note: given::has_note(line),
-            place,
-            count,
-            value,
-            rest: given::three(line, 28),
-        };
-        counts = report::one_more(counts, hold(rt, row, line, c)?);
-    }
-    Ok(counts)
-}
-
-fn each_count(
-    rt: &impl Print,
-    row: u64,
-    line: &[u8],
-    place: usize,
-    before: Counts,
-) -> io::Result<Counts> {
-    let mut counts = before;
-    for count in given::three(line, 12)..given::three(line, 16) + 1 {
-        counts = each_value(rt, row, line, place, count, counts)?;
-    }
-    Ok(counts)
-}
-
-fn each_place(rt: &impl Print, row: u64, line: &[u8], before: Counts) -> io::Result<Counts> {
-    let mut counts = before;
-    for place in given::three(line, 4)..given::three(line, 8) + 1 {
-        counts = each_count(rt, row, line, place, counts)?;
-    }
-    Ok(counts)
-}
-
-// The counts of a line's call after it. A line that is no case differs.
-fn counts_after(rt: &impl Print, row: u64, line: &[u8], before: Counts) -> io::Result<Counts> {
-    if given::well_made(line) {
-        return each_place(rt, row, line, before);
-    }
-    Ok(report::one_more(before, report::no_case(rt, row)?))
-}
-
-// A line that does not begin as a write counts as a read.
-fn count_line(rt: &impl Print, row: u64, line: &[u8], t: Tally) -> io::Result<Tally> {
-    let reads = t.reads;
-    let writes = t.writes;
-    if given::is_write(line) {
-        return Ok(Tally {
-            reads: reads,
-            writes: counts_after(rt, row, line, writes)?,
-        });
-    }
-    Ok(Tally {
-        reads: counts_after(rt, row, line, reads)?,
-        writes: writes,
+// Every byte of the buffer is compared, also past the part that the call was lent.
+fn write<P: Print>(
+    case: &mut Case<'_, P>,
+    given: &Given,
+    damage: Damage,
+    buffer: &mut [u8; ROOM],
+) -> io::Result<()> {
+    report::fill_with(buffer, made::buffer_byte);
+    let Some(lent) = buffer.get_mut(..damage.place) else {
+        return case.no_case();
+    };
+    let (refusal, len) = match writer::write(damage.session(), lent) {
+        Ok(len) => (0, len),
+        Err(refusal) => (u64::from(refusal), 0),
+    };
+    compare_numbers(case, given, refusal, "length", len)?;
+    case.bytes("buffer byte", buffer, |i| {
+        made::written_byte(given.has_note, given.offset, i)
     })
 }
 
-// The tally after one more line, and whether there was one.
-#[derive(Drop)]
-struct Turn {
-    more: bool,
-    tally: Tally,
-}
-
-// A last line that is cut has no newline, so it is no case.
-fn take_line(rt: &(impl Input + Print), row: u64, t: Tally) -> io::Result<Turn> {
-    let mut line = [0u8; given::LINE];
-    let n = report::read_full(&mut rt.reader(), &mut line)?;
-    if n == 0 {
-        return Ok(Turn {
-            more: false,
-            tally: t,
-        });
-    }
-    Ok(Turn {
-        more: true,
-        tally: count_line(rt, row, &line, t)?,
-    })
-}
-
-// A proved loop has to end, and nothing says that the input does: so the turns are counted up to a number that no run reaches.
-fn main(rt: HostRuntime) -> io::Result<()> {
-    let mut t = tally::none();
-    for turn in 0..u64::MAX {
-        let s = take_line(&rt, turn + 1, t)?;
-        t = s.tally;
-        if !s.more {
-            break;
+fn hold<P: Print>(case: &mut Case<'_, P>, given: &Given, damage: Damage) -> io::Result<()> {
+    let mut room = [0u8; ROOM];
+    if given.is_write {
+        write(case, given, damage, &mut room)?;
+    } else {
+        report::fill_with(&mut room, |i| damage.file_byte(i));
+        match room.get(..damage.length()) {
+            Some(file) => read(case, given, file)?,
+            None => case.no_case()?,
         }
     }
-    tally::print_totals(&rt, t)
+    if case.differs {
+        case.other(format_args!("so it is with {damage}"))?;
+    }
+    Ok(())
+}
+
+// Holds each case of a line. What differs is printed with the line's number, and then the place, count and value of the case.
+fn hold_all(
+    rt: &impl Print,
+    row: u64,
+    line: &[u8],
+    given: &Given,
+    counts: &mut Counts,
+) -> io::Result<()> {
+    let Given {
+        places,
+        counts: sizes,
+        values,
+        ..
+    } = *given;
+    for place in places.first..=places.last {
+        for count in sizes.first..=sizes.last {
+            for value in values.first..=values.last {
+                let mut case = Case::new(rt, row, line);
+                hold(&mut case, given, given.damage(place, count, value))?;
+                counts.count(&case);
+            }
+        }
+    }
+    Ok(())
+}
+
+fn count_line(rt: &impl Print, row: u64, line: &[u8], counts: &mut Counts) -> io::Result<()> {
+    if let Some(given) = Given::of(line) {
+        return hold_all(rt, row, line, &given, counts);
+    }
+    let mut case = Case::new(rt, row, line);
+    case.no_case()?;
+    counts.count(&case);
+    Ok(())
+}
+
+// A proved loop has to end, and nothing says that the input does: so the lines are numbered up to a number that no run reaches. A last
+// line that is cut has no newline, so it is no case.
+fn main(rt: HostRuntime) -> io::Result<()> {
+    let mut reads = Counts::default();
+    let mut writes = Counts::default();
+    for (row, line) in (1..u64::MAX).zip(Lines::<_, LINE>::new(rt.reader())) {
+        let (Line::Whole(line) | Line::Cut(line)) = line?;
+        let counts = if given::is_write(&line) {
+            &mut writes
+        } else {
+            &mut reads
+        };
+        count_line(&rt, row, &line, counts)?;
+    }
+    reads.print(&rt, "read:", "files")?;
+    writes.print(&rt, "write:", "calls")
 }

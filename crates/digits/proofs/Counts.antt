@@ -95,3 +95,5 @@ trailing_1 =
     (λ n x. omega (arith, pow-suc 2 n, low_rest n x, mod-lt x (pow_pos (suc n))))
     (λ n x e. omega (arith, pow-suc 2 n, low_bit n x, mod-lt x (pow_pos (suc n))))
     (λ n x k. omega (arith, pow-suc 2 n, low_bit n x, other_1 (x % 2) (omega arith) k, mod-lt x (pow_pos (suc n))))
+
+pub ruleset runs = (leading_0, leading_1, trailing_0, trailing_1)

@@ -3,9 +3,10 @@
 #![tactic(auto)]
 
 ghost use Rattle.std.specs.Prelude.{◌≡◌, ◌+◌, ◌*◌, ◌<◌, ◌≤◌};
-ghost use Rattle.word.specs.Word.{low};
 ghost use Rattle.digits.specs.Reverse.{reverse, reverse_each};
 ghost use Rattle.digits.specs.Unary.{unary_of};
+
+use word::low_word;
 
 #[derive(Clone, Copy)]
 pub enum Unary {
@@ -59,27 +60,21 @@ fn reversed_each(x: u64, bits: u64, groups: u64, parts: u64) -> u64
     r
 }
 
-// The low word.
-fn low_word(x: u64) -> u32
-    ensures { result ≡ low 32 x }
-{
-    (x % 0x1_0000_0000) as u32
-}
-
+#[tactic(auto, using(crate::proofs::Counts::runs), unfolding(crate::specs::Unary::unary_of))]
 pub fn unary_value(op: Unary, rj: u64) -> u64
     ensures { result ≡ unary_of op rj }
 {
     match op {
         Unary::ExtWB => word::sign_extend(rj, 8),
         Unary::ExtWH => word::sign_extend(rj, 16),
-        Unary::CloW => u32::leading_zeros(!low_word(rj)) as u64,
-        Unary::CloD => u64::leading_zeros(!rj) as u64,
-        Unary::ClzW => u32::leading_zeros(low_word(rj)) as u64,
-        Unary::ClzD => u64::leading_zeros(rj) as u64,
-        Unary::CtoW => u32::trailing_zeros(!low_word(rj)) as u64,
-        Unary::CtoD => u64::trailing_zeros(!rj) as u64,
-        Unary::CtzW => u32::trailing_zeros(low_word(rj)) as u64,
-        Unary::CtzD => u64::trailing_zeros(rj) as u64,
+        Unary::CloW => low_word(rj).leading_ones() as u64,
+        Unary::CloD => rj.leading_ones() as u64,
+        Unary::ClzW => low_word(rj).leading_zeros() as u64,
+        Unary::ClzD => rj.leading_zeros() as u64,
+        Unary::CtoW => low_word(rj).trailing_ones() as u64,
+        Unary::CtoD => rj.trailing_ones() as u64,
+        Unary::CtzW => low_word(rj).trailing_zeros() as u64,
+        Unary::CtzD => rj.trailing_zeros() as u64,
         Unary::Revb2h => word::sign_extend(reversed_each(rj, 8, 2, 2), 32),
         Unary::Revb4h => reversed_each(rj, 8, 2, 4),
         Unary::Revb2w => reversed_each(rj, 8, 4, 2),

@@ -1,5 +1,6 @@
 // What an instruction asks for: a pure function of the instruction, the registers and the pc. No arena and no window is in sight. Here are
 // the families that ask for different things; `ask` has them all.
+// Registers and pc are arguments of their own: in a struct they would go through memory at each call (docs/DECISIONS.md).
 
 #![tactic(auto)]
 
@@ -37,6 +38,7 @@ pub fn trap_of(op: Trap, code: u32) -> Fault
 }
 
 // B, BL and JIRL. The target is made before the return address is written.
+#[tactic(auto, unfolding(crate::specs::Effect::effect_of))]
 pub fn jump_of(op: Jump, o: Operands, regs: &[u64; 32], pc: GuestAddr) -> Effect
     ensures { result ≡ effect_of (Instruction.Jump op o) regs.now pc }
 {
@@ -50,6 +52,7 @@ pub fn jump_of(op: Jump, o: Operands, regs: &[u64; 32], pc: GuestAddr) -> Effect
 }
 
 // LDPTR and STPTR.
+#[tactic(auto, unfolding(crate::specs::Effect::effect_of))]
 pub fn pointer_of(op: Pointer, o: Operands, regs: &[u64; 32], pc: GuestAddr) -> Effect
     ensures { result ≡ effect_of (Instruction.Pointer op o) regs.now pc }
 {
@@ -63,6 +66,7 @@ pub fn pointer_of(op: Pointer, o: Operands, regs: &[u64; 32], pc: GuestAddr) -> 
 }
 
 // ASRTLE.D and ASRTGT.D.
+#[tactic(auto, unfolding(crate::specs::Effect::effect_of))]
 pub fn assert_of(op: Assert, o: Operands, regs: &[u64; 32], pc: GuestAddr) -> Effect
     ensures { result ≡ effect_of (Instruction.Assert op o) regs.now pc }
 {

@@ -30,23 +30,25 @@ fn told(ecode: u64, subcode: u64, carried: u64) -> Telling
     ensures { result ≡ told_of ecode subcode carried }
 {
     Telling {
-        ecode: ecode,
-        subcode: subcode,
-        carried: carried,
+        ecode,
+        subcode,
+        carried,
     }
 }
 
 // The numbers of a fault: the only source of them.
-pub fn tell(fault: Fault) -> Telling
-    ensures { result ≡ telling_of fault }
-{
-    match fault {
-        Fault::Adef(pc) => told(8, 0, pc.0),
-        Fault::Adem(a) => told(8, 1, a.0),
-        Fault::Ale(a) => told(9, 0, a.0),
-        Fault::Bce => told(10, 0, 0),
-        Fault::Syscall(code) => told(11, 0, code as u64),
-        Fault::Break(code) => told(12, 0, code as u64),
-        Fault::Ine(word) => told(13, 0, word as u64),
+impl From<Fault> for Telling {
+    ghost from_gives = { λ fault telling. telling ≡ telling_of fault };
+
+    fn from(fault: Fault) -> Telling {
+        match fault {
+            Fault::Adef(pc) => told(8, 0, pc.0),
+            Fault::Adem(a) => told(8, 1, a.0),
+            Fault::Ale(a) => told(9, 0, a.0),
+            Fault::Bce => told(10, 0, 0),
+            Fault::Syscall(code) => told(11, 0, code as u64),
+            Fault::Break(code) => told(12, 0, code as u64),
+            Fault::Ine(word) => told(13, 0, word as u64),
+        }
     }
 }

@@ -78,3 +78,7 @@ module _ (x y m l : ℕ) (hm : m < 64) (hl : l ≤ m) (hx : x < 2 ^ 64) where
 
   pub insert_is : x - low (m + 1) x + low (m + 1 - l) y * 2 ^ l % 2 ^ 64 + low l x ≡ insert x y m l
   insert_is = rw (le-leb l m hl) sums
+
+pub ruleset picks = (splice_fits, splice_word, double_fits, splice_double, splice_none)
+
+pub ruleset inserts = (insert_fits, insert_is)

@@ -22,21 +22,23 @@ pub enum Field {
     BstrpickD,
 }
 
+#[tactic(auto, using(crate::proofs::Splices::picks), unfolding(crate::specs::Bytepick::bytepick_of))]
 pub fn bytepick_value(op: Bytepick, rj: u64, rk: u64, sa: u32) -> u64
     ensures { result ≡ bytepick_of op rj rk sa }
 {
     match op {
         Bytepick::BytepickW => {
             let s = 8 * (sa % 4);
-            let under = (rj % 0x1_0000_0000) >> (32 - s);
+            let under = word::low_word(rj) as u64 >> (32 - s);
             word::sign_extend((rk << s) + under, 32)
         }
         Bytepick::BytepickD => {
             let s = 8 * (sa % 8);
             if s == 0 {
-                return rk;
+                rk
+            } else {
+                (rk << s) + (rj >> (64 - s))
             }
-            (rk << s) + (rj >> (64 - s))
         }
     }
 }
@@ -47,12 +49,14 @@ fn picked(x: u64, msb: u64, lsb: u64) -> u64
     ensures { result ≡ pick x msb lsb }
 {
     if msb < lsb {
-        return 0;
+        0
+    } else {
+        word::low_bits(x >> lsb, msb + 1 - lsb)
     }
-    word::low_bits(x >> lsb, msb + 1 - lsb)
 }
 
 // x with y's low bits at [msb:lsb].
+#[tactic(auto, using(crate::proofs::Splices::inserts))]
 fn inserted(x: u64, y: u64, msb: u64, lsb: u64) -> u64
     requires { (msb < 64) × (lsb < 64) }
     ensures { result ≡ insert x y msb lsb }
@@ -65,6 +69,7 @@ fn inserted(x: u64, y: u64, msb: u64, lsb: u64) -> u64
     above + field + word::low_bits(x, lsb)
 }
 
+#[tactic(auto, unfolding(crate::specs::Field::field_of))]
 pub fn field_value(op: Field, rd: u64, rj: u64, msb: u32, lsb: u32) -> u64
     ensures { result ≡ field_of op rd rj msb lsb }
 {

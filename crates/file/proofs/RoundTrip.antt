@@ -7,18 +7,19 @@ use lib.ListN.{length, drop, get_or}
 use lib.Seq.{take-append_seam}
 use borrow.Author.Tests.{eq-eqb, eqb-true, not-false, ltb-false, le-ltb}
 use Rattle.byte_order.specs.Bytes.{AreBytes}
+use Rattle.std.specs.Prelude.{Result, Ok, Err, IfOk}
 use Rattle.session.specs.declared.Session.{Session}
-use Rattle.refuse.specs.declared.Verdict.{Verdict}
+use Rattle.session.specs.declared.Refusal.{Refusal}
 use Rattle.refuse.specs.Refusals.{zero_due, verdict_of, refused_of}
 use Rattle.refuse.proofs.Accepted.{Clear, all_clear}
-use Rattle.file.specs.declared.Written.{Written}
+use Rattle.file.specs.declared.FileRefusal.{FileRefusal}
 use Rattle.file.specs.declared.Reading.{Reading}
 use Rattle.session.specs.Fit.{Fit}
 use Rattle.file.specs.Writing.{file_of, buffer_due, write_tests, write_judged, host_write_of}
-use Rattle.file.specs.Reading.{host_read_of}
-use Rattle.file.specs.Promises.{ReadsBack, Writes, Reads, WrittenReadsBack, ReadWritesBack}
+use Rattle.file.specs.Reading.{host_read_of, number_read}
+use Rattle.file.specs.Promises.{ReadsBack, WritesBack, Writes, Reads, WrittenReadsBack, ReadWritesBack}
 use Rattle.file.proofs.There.{file_read}
-use Rattle.file.proofs.Back.{not_accepted, kept}
+use Rattle.file.proofs.Back.{Kept, kept}
 
 -- an accepted write has register 0 zero
 zero_clear : (s : Session) → zero_due s ≡ false → get_or s.regs 0 0 ≡ 0
@@ -26,13 +27,13 @@ unfolding zero_due
 zero_clear s e = eqb-true _ _ (not-false _ e)
 
 -- and room
-pub write_room : (s : Session) (buffer : List ℕ) → verdict_of (write_tests s (length buffer)) ≡ Verdict.Accepted → length (file_of s) ≤ length buffer
+pub write_room : (s : Session) (buffer : List ℕ) → verdict_of (write_tests s (length buffer)) ≡ Ok tt → length (file_of s) ≤ length buffer
 unfolding buffer_due
 write_room s buffer e = ltb-false (length buffer) (length (file_of s)) (all_clear (write_tests s (length buffer)) e).1.0
 
 -- and a write with register 0 zero and room is accepted
 write_accepted : (s : Session) (buffer : List ℕ) → get_or s.regs 0 0 ≡ 0 → length (file_of s) ≤ length buffer
-    → host_write_of s buffer ≡ (record { verdict = Verdict.Accepted; len = length (file_of s) }, file_of s ++ drop (length (file_of s)) buffer)
+    → host_write_of s buffer ≡ (Ok (length (file_of s)), file_of s ++ drop (length (file_of s)) buffer)
 unfolding host_write_of zero_due buffer_due
 write_accepted s buffer z l = rw (eq-eqb (get_or s.regs 0 0) 0 z, le-ltb (length buffer) (length (file_of s)) l) refl
 
@@ -40,36 +41,42 @@ pub written_reads_back : WrittenReadsBack
 unfolding host_write_of
 written_reads_back s h buffer = go (verdict_of (write_tests s (length buffer))) (all_clear (write_tests s (length buffer)))
   where
-    go : (v : Verdict) → (v ≡ Verdict.Accepted → Clear (write_tests s (length buffer)))
+    go : (v : Result (Unit {0}) Refusal) → (v ≡ Ok tt → Clear (write_tests s (length buffer)))
         → ReadsBack s (write_judged v s buffer).0 (write_judged v s buffer).1
-    go Verdict.Accepted c e = rw (take-append_seam (file_of s) (drop (length (file_of s)) buffer)) (file_read s h (zero_clear s (c e).0))
-    go (Verdict.Refused r) c e = absurd (not_accepted r e)
+    go (Ok x) c = rw (take-append_seam (file_of s) (drop (length (file_of s)) buffer)) (file_read s h (zero_clear s (c refl).0))
+    go (Err r) c = tt
 
 pub read_writes_back : ReadWritesBack
-read_writes_back f h v buffer l =
-    let k = kept f h v in
-    rw k.file at (write_accepted (host_read_of f).session buffer k.zero (rw k.file l))
+read_writes_back f h = go (host_read_of f) (kept f h)
+  where
+    go : (r : Result Reading FileRefusal) → IfOk r (λ x. Kept f x) → WritesBack f r
+    go (Ok x) k = λ buffer l. rw k.file at (write_accepted x.session buffer k.zero (rw k.file l))
+    go (Err e) k = tt
 
 -- what a call that gives the definition's answer promises
-writes : (s : Session) (buffer : List ℕ) (r : Written) (after : List ℕ) → Fit s → r ≡ (host_write_of s buffer).0 → after ≡ (host_write_of s buffer).1
+writes : (s : Session) (buffer : List ℕ) (r : Result ℕ Refusal) (after : List ℕ) → Fit s → r ≡ (host_write_of s buffer).0 → after ≡ (host_write_of s buffer).1
     → Writes s buffer r after
 writes s buffer r after h e g = record {
   reply = e;
   bytes = g;
-  number = ap (λ (x : Written). refused_of x.verdict) e;
+  number = ap (λ (x : Result ℕ Refusal). refused_of x) e;
   back = rw (e, g) (written_reads_back s h buffer);
 }
 
 -- the same from what the tests came to
-pub by_verdict : (s : Session) (buffer : List ℕ) (v : Verdict) (r : Written) (after : List ℕ) → Fit s → verdict_of (write_tests s (length buffer)) ≡ v
+pub by_verdict : (s : Session) (buffer : List ℕ) (v : Result (Unit {0}) Refusal) (r : Result ℕ Refusal) (after : List ℕ) → Fit s → verdict_of (write_tests s (length buffer)) ≡ v
     → r ≡ (write_judged v s buffer).0 → after ≡ (write_judged v s buffer).1 → Writes s buffer r after
 unfolding host_write_of
 by_verdict s buffer v r after h q e g = writes s buffer r after h (rw q e) (rw q g)
 
-pub reads : (f : List ℕ) (r : Reading) → AreBytes f → r ≡ host_read_of f → Reads f r
+pub reads : (f : List ℕ) (r : Result Reading FileRefusal) → AreBytes f → r ≡ host_read_of f → Reads f r
 reads f r h e = record {
   reply = e;
-  number = ap (λ (x : Reading). refused_of x.verdict) e;
-  whole = rw e (λ v. (kept f h v).whole);
+  number = ap (λ (x : Result Reading FileRefusal). number_read x) e;
+  whole = rw e (whole (host_read_of f) (kept f h));
   back = rw e (read_writes_back f h);
 }
+  where
+    whole : (r : Result Reading FileRefusal) → IfOk r (λ x. Kept f x) → IfOk r (λ x. x.offset ≡ length f)
+    whole (Ok x) k = k.whole
+    whole (Err e) k = tt

@@ -9,16 +9,16 @@ use lib.Seq.{get_or-drop, drop-cons}
 use borrow.Author.Tests.{eqb-false, le-ltb}
 use Rattle.byte_order.specs.Bytes.{get_le, bytes_le}
 use Rattle.byte_order.proofs.Stands.{length_bytes, head_at, lt_at, past, read_at}
+use Rattle.std.specs.Prelude.{Option, Some, None, Result, Ok}
 use Rattle.session.specs.declared.Session.{Session}
 use Rattle.session.specs.declared.Note.{Note}
 use Rattle.session.specs.Session.{fresh_of}
-use Rattle.refuse.specs.declared.Verdict.{Verdict}
 use Rattle.file.specs.declared.Cursor.{Cursor}
-use Rattle.file.specs.declared.Progress.{Progress}
+use Rattle.file.specs.declared.FileRefusal.{FileRefusal}
 use Rattle.session.specs.Fit.{Fit, NoteFit}
 use Rattle.file.specs.Format.{Row, bytes_of_each, numbers_at, with_note, pc_row, registers_row, total_row, note_row, end_row}
 use Rattle.file.specs.Writing.{part_bytes, file_of}
-use Rattle.file.specs.Reading.{due_of, taken_of, row_of, extra_of, parsed_of, reading_of, host_read_of}
+use Rattle.file.specs.Reading.{and_then, due_of, taken_of, row_of, ended_of, parsed_of, host_read_of}
 use Rattle.file.proofs.Lengths.{length_registers, length_file}
 use Rattle.file.proofs.Walk.{on, core_of, core_bytes, met, note_met, note_passed}
 
@@ -38,7 +38,7 @@ numbers_at_lem (x ∷ xs) f rest at h e =
 
 -- what holds where the part of a row with body xs stands at `at`, with `rest` behind it
 record Standing (r : Row) (xs rest f : List ℕ) (at : ℕ) (t : Session) : Type 0 where
-  step : taken_of r f (due_of r.kind r.len f at) t ≡ on (at + 1 + r.len) (r.taken f (at + 1) t)
+  step : and_then (taken_of r f t) (due_of r.kind r.len f at) ≡ Ok (on (at + 1 + r.len) (r.taken f (at + 1) t))
   body : drop (at + 1) f ≡ xs ++ rest
   behind : drop (at + 1 + r.len) f ≡ rest
 
@@ -47,26 +47,26 @@ standing r xs rest f at t l e =
     let body : drop (at + 1) f ≡ xs ++ rest = past f at 1 (r.kind ∷ []) (xs ++ rest) refl e in
     let whole : length f - at ≡ suc (length xs + length rest) = sym (length-drop at f) ∙ ap (λ x. length x) e ∙ ap suc (length-append xs rest) in
     record {
-      step = ap (λ (p : Progress). taken_of r f p t) (met r.kind r.len f at (head_at f at r.kind (xs ++ rest) e) (omega (arith, whole, l)));
+      step = ap (λ (p : Result ℕ FileRefusal). and_then (taken_of r f t) p) (met r.kind r.len f at (head_at f at r.kind (xs ++ rest) e) (omega (arith, whole, l)));
       body = body;
       behind = past f (at + 1) r.len xs rest l body;
     }
 
 -- the note's part, or none, and another kind behind it
-note_there : (n : Note) (t : Session) (f : List ℕ) (at k : ℕ) (rest : List ℕ) → NoteFit n → (k ≡ 4 → ⊥)
+note_there : (n : Option Note) (t : Session) (f : List ℕ) (at k : ℕ) (rest : List ℕ) → NoteFit n → (k ≡ 4 → ⊥)
     → drop at f ≡ part_bytes note_row (with_note t n) ++ (k ∷ rest)
     → let q = at + length (part_bytes note_row (with_note t n)) in
-    (row_of note_row f (on at (with_note t Note.Absent)) ≡ on q (with_note t n)) × (drop q f ≡ k ∷ rest)
+    (row_of note_row f (on at (with_note t None)) ≡ Ok (on q (with_note t n))) × (drop q f ≡ k ∷ rest)
 unfolding bytes_le
-note_there Note.Absent t f at k rest h x e =
-    rw add-zero (note_passed f at (with_note t Note.Absent) (λ y. x (sym (head_at f at k rest e) ∙ y)) (lt_at f at k rest e), e)
-note_there (Note.Present low high) t f at k rest h x e =
-    let s = standing note_row (bytes_le 8 low ++ bytes_le 8 high) (k ∷ rest) f at (with_note t Note.Absent) refl e in
-    let first : drop (at + 1) f ≡ bytes_le 8 low ++ (bytes_le 8 high ++ (k ∷ rest)) = s.body in
-    let second : drop (at + 1 + 8) f ≡ bytes_le 8 high ++ (k ∷ rest) = word_past low f _ (at + 1) first in
+note_there None t f at k rest h x e =
+    rw add-zero (note_passed f at (with_note t None) (λ y. x (sym (head_at f at k rest e) ∙ y)) (lt_at f at k rest e), e)
+note_there (Some note) t f at k rest h x e =
+    let s = standing note_row (bytes_le 8 note.low ++ bytes_le 8 note.high) (k ∷ rest) f at (with_note t None) refl e in
+    let first : drop (at + 1) f ≡ bytes_le 8 note.low ++ (bytes_le 8 note.high ++ (k ∷ rest)) = s.body in
+    let second : drop (at + 1 + 8) f ≡ bytes_le 8 note.high ++ (k ∷ rest) = word_past note.low f _ (at + 1) first in
     let q : at + 1 + 16 ≡ at + 17 = omega arith in
-    let there = note_met f at (with_note t Note.Absent) (head_at f at 4 _ e) (omega (arith, lt_at f (at + 1 + 16) k rest s.behind)) in (
-      rw (q, word_at low f _ (at + 1) h.0 first, word_at high f _ (at + 1 + 8) h.1 second) at there,
+    let there = note_met f at (with_note t None) (head_at f at 4 _ e) (omega (arith, lt_at f (at + 1 + 16) k rest s.behind)) in (
+      rw (q, word_at note.low f _ (at + 1) h.0 first, word_at note.high f _ (at + 1 + 8) h.1 second) at there,
       rw q at s.behind,
     )
 
@@ -88,7 +88,7 @@ registers_at s h z f rest at e =
 pub core_there : (s : Session) → Fit s → get_or s.regs 0 0 ≡ 0 → (f : List ℕ) (at k : ℕ) (rest : List ℕ) → (k ≡ 4 → ⊥)
     → drop at f ≡ core_bytes s (k ∷ rest)
     → let q = at + 1 + 8 + 1 + 248 + 1 + 8 + length (part_bytes note_row s) in
-    (core_of f (on at fresh_of) ≡ on q s) × (drop q f ≡ k ∷ rest)
+    (core_of f (Ok (on at fresh_of)) ≡ Ok (on q s)) × (drop q f ≡ k ∷ rest)
 core_there s h z f at k rest x e =
     let p = standing pc_row (bytes_le 8 s.pc.0) _ f at fresh_of (length_bytes 8 s.pc.0) e in
     let t1 = pc_row.taken f (at + 1) fresh_of in
@@ -102,28 +102,27 @@ core_there s h z f at k rest x e =
     let got =
     same s (0 ∷ numbers_at 31 (a + 1) f) (get_le 8 (at + 1) f) (get_le 8 (b + 1) f)
     (registers_at s h z f _ (a + 1) r.body) (word_at s.pc.0 f _ (at + 1) h.pc p.body) (word_at s.total f _ (b + 1) h.total t.body) in (
-      ap (λ (y : Cursor). row_of note_row f (row_of total_row f (row_of registers_row f y))) p.step
-          ∙ ap (λ (y : Cursor). row_of note_row f (row_of total_row f y)) r.step
-          ∙ ap (λ (y : Cursor). row_of note_row f y) t.step
+      ap (λ (y : Result Cursor FileRefusal). and_then (row_of note_row f) (and_then (row_of total_row f) (and_then (row_of registers_row f) y))) p.step
+          ∙ ap (λ (y : Result Cursor FileRefusal). and_then (row_of note_row f) (and_then (row_of total_row f) y)) r.step
+          ∙ ap (λ (y : Result Cursor FileRefusal). and_then (row_of note_row f) y) t.step
           ∙ n.0
-          ∙ ap (on (b + 1 + 8 + length (part_bytes note_row s))) got,
+          ∙ ap (λ (t : Session). Ok (on (b + 1 + 8 + length (part_bytes note_row s)) t)) got,
       n.1,
     )
 
 -- nothing behind the file's end
-ends : (f : List ℕ) (at : ℕ) → length f ≡ at → extra_of f (Progress.At at) ≡ Progress.At (length f)
-unfolding extra_of
-ends f at e = rw (le-ltb at (length f) (omega arith), e) refl
+ends : (f : List ℕ) (at : ℕ) (s : Session) → length f ≡ at → ended_of f (on at s) ≡ Ok (record { session = s; offset = length f })
+unfolding ended_of
+ends f at s e = rw (le-ltb at (length f) (omega arith), e) refl
 
 -- the file of a session reads as that session
 pub file_read : (s : Session) → Fit s → get_or s.regs 0 0 ≡ 0
-    → host_read_of (file_of s) ≡ record { verdict = Verdict.Accepted; session = s; offset = length (file_of s) }
+    → host_read_of (file_of s) ≡ Ok (record { session = s; offset = length (file_of s) })
 unfolding host_read_of parsed_of file_of
 file_read s h z =
     let f = file_of s in
     let core = core_there s h z f 0 5 [] (eqb-false 5 4 refl) refl in
     let q = 267 + length (part_bytes note_row s) in
     let end = standing end_row [] [] f q s refl core.1 in
-    let parsed = ap (λ (y : Cursor). row_of end_row f y) core.0 ∙ end.step in
-    ap (λ (y : Cursor). reading_of (extra_of f y.progress) y.session) parsed
-    ∙ ap (λ (p : Progress). reading_of p s) (ends f (q + 1 + 0) (omega (arith, length_file s h.count)))
+    let parsed = ap (λ (y : Result Cursor FileRefusal). and_then (row_of end_row f) y) core.0 ∙ end.step in
+    ap (λ (y : Result Cursor FileRefusal). and_then (ended_of f) y) parsed ∙ ends f (q + 1 + 0) s (omega (arith, length_file s h.count))

@@ -1,20 +1,19 @@
 -- More that 01 says of the file, each of all inputs. The proofs are in proofs/Edges.antt.
-use Rattle.std.specs.Prelude.{ℕ, ◌≤◌, ◌≡◌, List, length, get_or}
+use Rattle.std.specs.Prelude.{ℕ, ◌≤◌, ◌≡◌, List, length, get_or, Option, Some, None, Ok, Err}
 use Rattle.byte_order.specs.Bytes.{AreBytes}
 use Rattle.session.specs.declared.Note.{Note}
 use Rattle.session.specs.declared.Session.{Session}
 use Rattle.session.specs.declared.Refusal.{Refusal}
 use Rattle.session.specs.Session.{fresh_of}
 use Rattle.session.specs.Numbers.{number_of}
-use Rattle.refuse.specs.declared.Verdict.{Verdict}
 use Rattle.session.specs.Fit.{Fit}
-use Rattle.file.specs.Writing.{file_of, host_write_of}
-use Rattle.file.specs.Reading.{host_read_of}
+use Rattle.file.specs.Writing.{file_of, length_written, host_write_of}
+use Rattle.file.specs.Reading.{refused, host_read_of, session_read}
 
 -- "So 268 bytes, or 285 with a note."
-abbrev pub length_with : Note → ℕ
-length_with Note.Absent = 268
-length_with (Note.Present low high) = 285
+abbrev pub length_with : Option Note → ℕ
+length_with None = 268
+length_with (Some note) = 285
 
 abbrev pub FileLengths : Type 0
 FileLengths = (s : Session) → Fit s → length (file_of s) ≡ length_with s.note
@@ -22,8 +21,8 @@ FileLengths = (s : Session) → Fit s → length (file_of s) ≡ length_with s.n
 -- "refused writes leave the buffer unchanged and return length 0"
 abbrev pub RefusedWrite : Type 0
 RefusedWrite =
-    (s : Session) (buffer : List ℕ) (x : Refusal) → (host_write_of s buffer).0.verdict ≡ Verdict.Refused x
-    → host_write_of s buffer ≡ (record { verdict = Verdict.Refused x; len = 0 }, buffer)
+    (s : Session) (buffer : List ℕ) (x : Refusal) → (host_write_of s buffer).0 ≡ Err x
+    → (host_write_of s buffer ≡ (Err x, buffer)) × (length_written (host_write_of s buffer).0 ≡ 0)
 
 -- "A longer buffer is written only in its first 268 or 285 bytes."
 abbrev pub OnlyTheFirst : Type 0
@@ -34,7 +33,7 @@ OnlyTheFirst =
 abbrev pub EveryValueReads : Type 0
 EveryValueReads =
     (s : Session) → Fit s → get_or s.regs 0 0 ≡ 0
-    → host_read_of (file_of s) ≡ record { verdict = Verdict.Accepted; session = s; offset = length (file_of s) }
+    → host_read_of (file_of s) ≡ Ok (record { session = s; offset = length (file_of s) })
 
 -- a refusal that reading can meet, 11 to 13, at an offset in the file or at its end
 abbrev pub Meets : List ℕ → Refusal → ℕ → Type 0
@@ -43,5 +42,5 @@ Meets f x at = (11 ≤ number_of x) × (number_of x ≤ 13) × (at ≤ length f)
 -- "A refused read returns the fresh session (all zero, no note)"
 abbrev pub RefusedRead : Type 0
 RefusedRead =
-    (f : List ℕ) → AreBytes f → (x : Refusal) → (host_read_of f).verdict ≡ Verdict.Refused x
-    → ((host_read_of f).session ≡ fresh_of) × Meets f x (host_read_of f).offset
+    (f : List ℕ) → AreBytes f → (x : Refusal) (at : ℕ) → host_read_of f ≡ refused x at
+    → (session_read f ≡ fresh_of) × Meets f x at

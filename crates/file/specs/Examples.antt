@@ -1,13 +1,13 @@
 -- 01's sentences on the file, worked out on a file of each form: where the bytes stand, and what reading a damaged file says. Each
 -- table is one computed test, in proofs/Examples.antt.
-use Rattle.std.specs.Prelude.{ℕ, Bool, true, ◌&&◌, List, [], ◌∷◌, ◌++◌, eqb, take, set, replicate}
+use Rattle.std.specs.Prelude.{ℕ, Bool, true, ◌&&◌, List, [], ◌∷◌, ◌++◌, eqb, take, set, replicate, Option, Some, None}
 use Rattle.session.specs.declared.Note.{Note}
 use Rattle.session.specs.declared.Session.{Session}
-use Rattle.refuse.specs.Refusals.{refused_of}
+use Rattle.session.specs.Session.{note as note_of}
 use Rattle.file.specs.Writing.{file_of}
-use Rattle.file.specs.Reading.{host_read_of}
+use Rattle.file.specs.Reading.{host_read_of, number_read, offset_read}
 
-abbrev pub sample : Note → Session
+abbrev pub sample : Option Note → Session
 sample note = record {
   regs = 0 ∷ 0x11 ∷ (replicate 29 0x22 ++ (0x3300000000000044 ∷ []));
   pc = record { 0 = 0x0807060504030201 };
@@ -17,10 +17,10 @@ sample note = record {
 
 -- a file without a note, and one with
 abbrev pub plain : List ℕ
-plain = file_of (sample Note.Absent)
+plain = file_of (sample None)
 
 abbrev pub noted : List ℕ
-noted = file_of (sample (Note.Present 0x7700000000000066 0x9900000000000088))
+noted = file_of (sample (Some (note_of 0x7700000000000066 0x9900000000000088)))
 
 -- the test holds of all
 abbrev pub of_all : {A : Type 0} → (A → Bool) → List A → Bool
@@ -89,4 +89,4 @@ damages =
     ∷ []
 
 abbrev pub told : Damage → Bool
-told d = eqb (refused_of (host_read_of d.file).verdict) d.number && eqb (host_read_of d.file).offset d.offset
+told d = eqb (number_read (host_read_of d.file)) d.number && eqb (offset_read (host_read_of d.file)) d.offset

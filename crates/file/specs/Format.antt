@@ -1,11 +1,11 @@
 -- 01, "The paused session file": "One byte of kind, then a body whose length the kind fixes. In this order: 0x01 pc, 8 bytes; 0x02
 -- registers r1 to r31, 248 bytes; 0x03 total, 8 bytes; optionally 0x04 note, 16 bytes; 0x05 end, no body." Writing (Writing.antt) and
 -- reading (Reading.antt) both go by these rows.
-use Rattle.std.specs.Prelude.{ℕ, zero, suc, ◌+◌, Bool, true, false, List, [], ◌∷◌, ◌++◌, drop}
+use Rattle.std.specs.Prelude.{ℕ, zero, suc, ◌+◌, Bool, true, false, List, [], ◌∷◌, ◌++◌, drop, Option, Some}
 use Rattle.byte_order.specs.Bytes.{get_le, bytes_le}
 use Rattle.session.specs.declared.Note.{Note}
 use Rattle.session.specs.declared.Session.{Session}
-use Rattle.session.specs.Session.{note_bytes}
+use Rattle.session.specs.Session.{note, note_bytes}
 
 -- One kind: its byte, the length of its body, whether it may be left out, the body that a session has, and the session that a body gives
 -- which stands in a file from `at` on.
@@ -41,7 +41,7 @@ with_registers s regs = record { regs = regs; pc = s.pc; total = s.total; note =
 abbrev pub with_total : Session → ℕ → Session
 with_total s total = record { regs = s.regs; pc = s.pc; total = total; note = s.note }
 
-abbrev pub with_note : Session → Note → Session
+abbrev pub with_note : Session → Option Note → Session
 with_note s note = record { regs = s.regs; pc = s.pc; total = s.total; note = note }
 
 -- "0x01 pc, 8 bytes"
@@ -58,7 +58,7 @@ total_row = due 0x03 8 (λ s. bytes_le 8 s.total) (λ f at s. with_total s (get_
 
 -- "optionally 0x04 note, 16 bytes"
 abbrev pub note_row : Row
-note_row = optional 0x04 16 (λ s. note_bytes s.note) (λ f at s. with_note s (Note.Present (get_le 8 at f) (get_le 8 (at + 8) f)))
+note_row = optional 0x04 16 (λ s. note_bytes s.note) (λ f at s. with_note s (Some (note (get_le 8 at f) (get_le 8 (at + 8) f))))
 
 -- "0x05 end, no body"
 abbrev pub end_row : Row

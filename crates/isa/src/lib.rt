@@ -2,9 +2,6 @@
 
 #![tactic(auto)]
 
-ghost use Rattle.std.specs.Prelude.{◌≡◌, cond};
-ghost use Rattle.isa.specs.declared.Decoded.TheVariants.{Known, Unknown};
-
 use alu::{Alsl, Alu, Immediate, Upper};
 use digits::Unary;
 use fields::{Bytepick, Field};
@@ -13,7 +10,8 @@ use quotient::Division;
 use shift::Shift;
 
 // Operands are the word's own numbers: an immediate is not yet extended or scaled. What the format does not have is 0. The three
-// structs have their fields at the same offsets, so that reading one costs the same in every case of an instruction.
+// structs have their fields at the same offsets, so that reading one costs the same in every case of an instruction. They stay three: a
+// generic struct is no plainer, since it is the names of two fields that differ, and operands, field_operands and hint_operands say them.
 #[derive(Clone, Copy)]
 pub struct Operands {
     pub rd: u8,
@@ -146,22 +144,4 @@ pub enum Instruction {
     Trap(Trap, Operands),
     Assert(Assert, Operands),
     Config(Config, Operands),
-}
-
-// The instruction, or that there is none.
-#[derive(Clone, Copy)]
-pub enum Decoded {
-    Known(Instruction),
-    Unknown,
-}
-
-// An instruction, if its word exists.
-pub fn only_if(exists: bool, i: Instruction) -> Decoded
-    ensures { result ≡ cond exists (Known i) Unknown }
-{
-    if exists {
-        Decoded::Known(i)
-    } else {
-        Decoded::Unknown
-    }
 }

@@ -5,6 +5,7 @@ use mathlib.Core.List.{List}
 use Prim.Native.Nat.{ℕ, suc, ◌+◌}
 use lib.ListN.{length}
 use borrow.Author.Tests.{le-ltb}
+use Rattle.std.specs.Prelude.{Result, Ok, Err}
 use Rattle.place.specs.declared.Window.{Window}
 use Rattle.fault.specs.declared.Fault.{Fault}
 use Rattle.apply.specs.Machine.{Ground, State, Ended, with_window, with_arena, done, raised}
@@ -13,7 +14,7 @@ use Rattle.stepping.proofs.Kept.{length_stays, outside_stays}
 use Rattle.session.specs.declared.Session.{Session}
 use Rattle.session.specs.declared.Stop.{Stop}
 use Rattle.session.specs.declared.Reply.{Reply}
-use Rattle.refuse.specs.declared.Verdict.{Verdict}
+use Rattle.session.specs.declared.Refusal.{Refusal}
 use Rattle.refuse.specs.Refusals.{window_due, place_due, verdict_of}
 use Rattle.running.specs.Run.{Went, stopped, counted, reply_of, run_of, state_of, ran_of}
 use Rattle.running.specs.Call.{judged, tests_of, host_run_of}
@@ -50,9 +51,9 @@ pub outside_call : (g : Ground) (s : Session) (budget : ℕ) (arena : List ℕ) 
 unfolding host_run_of ran_of
 outside_call g s budget arena = go (verdict_of (tests_of g s budget arena))
   where
-    go : (v : Verdict) → OutsideUnchanged g.window arena (judged v s arena (reply_of s (run_of g budget (state_of s arena)))).1
-    go Verdict.Accepted = outside_run g budget (state_of s arena)
-    go (Verdict.Refused r) = unchanged g.window arena
+    go : (v : Result (Unit {0}) Refusal) → OutsideUnchanged g.window arena (judged v s arena (reply_of s (run_of g budget (state_of s arena)))).1
+    go (Ok tt) = outside_run g budget (state_of s arena)
+    go (Err r) = unchanged g.window arena
 
 -- ---- two arenas
 
@@ -102,9 +103,9 @@ module _ (g : Ground) (w : Window) where
     unfolding host_run_of
     same_call = rw same_verdict (go (verdict_of (tests_of (with_window w g) s budget B)))
       where
-        go : (x : Verdict) → Same g.window w (judged x s A (ran_of g s budget A)) (judged x s B (ran_of (with_window w g) s budget B))
-        go Verdict.Accepted = same_ran
-        go (Verdict.Refused r) = (refl, t)
+        go : (x : Result (Unit {0}) Refusal) → Same g.window w (judged x s A (ran_of g s budget A)) (judged x s B (ran_of (with_window w g) s budget B))
+        go (Ok tt) = same_ran
+        go (Err r) = (refl, t)
 
 -- ---- the statements
 

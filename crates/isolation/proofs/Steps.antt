@@ -8,6 +8,7 @@ use native.Mathlib.Omega.{arith}
 use lib.Dec.{eqb, leb}
 use borrow.Author.Tests.{leb-true, leb-false}
 use lib.ListN.{get_or}
+use Rattle.std.specs.Prelude.{Option, Some, None, Ok, Err}
 use Rattle.place.specs.declared.GuestAddr.{GuestAddr}
 use Rattle.place.specs.declared.Width.{Width}
 use Rattle.place.specs.declared.Window.{Window}
@@ -15,15 +16,13 @@ use Rattle.place.specs.Place.{window_base, bytes_of, within_of, locate_of}
 use Rattle.place.proofs.Reach.{within_true}
 use Rattle.byte_order.specs.Bytes.{put_le}
 use Rattle.byte_order.proofs.Numbers.{length_put, put_below, put_above, put_ext, get_ext}
-use Rattle.isa.specs.declared.Decoded.{Decoded}
+use Rattle.isa.specs.declared.Instruction.{Instruction}
 use Rattle.isa.specs.declared.Load.{Load}
 use Rattle.opcode.specs.Decode.{decode_of}
 use Rattle.fault.specs.declared.Fault.{Fault}
 use Rattle.memory.specs.Memory.{load_width_of, extended_of, loaded_of, stored_of}
 use Rattle.effect.specs.declared.Effect.{Effect}
 use Rattle.effect.specs.Effect.{effect_of}
-use Rattle.apply.specs.declared.Access.{Access}
-use Rattle.cpu.specs.declared.Fetched.{Fetched}
 use Rattle.apply.specs.Machine.{Ground, State, with_window, with_arena}
 use Rattle.apply.specs.Apply.{access_of, load_of, store_of, apply_of}
 use Rattle.cpu.specs.Step.{fetch_of, step_decoded, step_fetched, step_of}
@@ -32,9 +31,9 @@ use Rattle.isolation.proofs.Twins.{Twins, SameStep}
 module _ (v w : Window) (same : v.len ≡ w.len) where
   -- an access in two windows of one length: denied alike, or let through to the same place in each
   pub data Both (a : GuestAddr) (k : Width) : Type 0 where
-    denied : (f : Fault) → access_of v a k ≡ Access.Denied f → access_of w a k ≡ Access.Denied f → Both a k
-    reached : (d : ℕ) → d + bytes_of k ≤ v.len → access_of v a k ≡ Access.At (record { 0 = v.start.0 + d })
-        → access_of w a k ≡ Access.At (record { 0 = w.start.0 + d }) → Both a k
+    denied : (f : Fault) → access_of v a k ≡ Err f → access_of w a k ≡ Err f → Both a k
+    reached : (d : ℕ) → d + bytes_of k ≤ v.len → access_of v a k ≡ Ok (record { 0 = v.start.0 + d })
+        → access_of w a k ≡ Ok (record { 0 = w.start.0 + d }) → Both a k
 
   pub both : (a : GuestAddr) (k : Width) → Both a k
   unfolding access_of locate_of
@@ -111,13 +110,13 @@ module _ (v w : Window) where
 
 -- the second side: the same ground and the same state, but for the window and the arena
 module _ (g : Ground) (w : Window) (s : State) (B : List ℕ) (t : Twins g.window s.arena w B) where
-  of_decoded : (d : Decoded) (word : ℕ) → SameStep g.window w (step_decoded d word g s) (step_decoded d word (with_window w g) (with_arena B s))
-  of_decoded (Decoded.Known i) word = of_effect g.window w s B t (effect_of i s.regs s.pc)
-  of_decoded Decoded.Unknown word = (B, refl, t)
+  of_decoded : (d : Option Instruction) (word : ℕ) → SameStep g.window w (step_decoded d word g s) (step_decoded d word (with_window w g) (with_arena B s))
+  of_decoded (Some i) word = of_effect g.window w s B t (effect_of i s.regs s.pc)
+  of_decoded None word = (B, refl, t)
 
-  of_fetched : (x : Fetched) → SameStep g.window w (step_fetched x g s) (step_fetched x (with_window w g) (with_arena B s))
-  of_fetched (Fetched.Word word) = of_decoded (decode_of word) word
-  of_fetched Fetched.Bad = (B, refl, t)
+  of_fetched : (x : Option ℕ) → SameStep g.window w (step_fetched x g s) (step_fetched x (with_window w g) (with_arena B s))
+  of_fetched (Some word) = of_decoded (decode_of word) word
+  of_fetched None = (B, refl, t)
 
   pub same_step : SameStep g.window w (step_of g s) (step_of (with_window w g) (with_arena B s))
   unfolding step_of

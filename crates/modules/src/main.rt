@@ -13,225 +13,173 @@
 //         [92, 8], registers 1 to 31 [101, 16], each 17 behind the one before
 #![tactic(auto)]
 
-mod differ;
 mod file;
 mod given;
 mod way;
 
-use session::{Reply, Session};
+use given::{CODE, Given, LINE, WINDOW};
+use report::case::Case;
+use report::lines;
+use report::lines::{Line, Lines};
+use session::{Numbers, Reply, Session};
 use std::io;
 use std::rt::Files;
 use way::Way;
 
-// The most code, the largest window, and an arena with room beside it in both ways.
-const CODE: usize = 65536;
-
-const WINDOW: usize = 65536;
-
+// An arena with room beside the largest window in both ways.
 const ARENA: usize = 69700;
 
-// A session after a line's run, and what is to be told of the run.
+// A module that is run in one way, from line to line.
 #[derive(Drop)]
-struct Ran {
+struct Run {
+    way: Way,
+    arena: [u8; ARENA],
     session: Session,
-    steps: u64,
-    call: u64,
-    differs: bool,
 }
 
-// What a line's run starts from: a module that begins, or the session of the line before with the host's answer.
-fn start(line: &[u8], code: &[u8], before: Session) -> Session {
-    if given::begins(line) {
-        return Session::start();
+impl Run {
+    fn new(way: Way) -> Run {
+        Run {
+            way,
+            arena: [0; ARENA],
+            session: Session::start(),
+        }
     }
-    let r = service::answer(code, before, given::answer(line));
-    r.session
+
+    // What a line's run starts from: a module that begins, or the session of the line before with the host's answer.
+    fn start(&self, given: &Given<'_>, code: &[u8]) -> Session {
+        if given.begins {
+            Session::start()
+        } else {
+            service::answer(code, self.session, given.answer).session
+        }
+    }
+
+    // Where a module begins: fills the arena with the pattern, and the window with the module's card. Says whether the card was
+    // there.
+    fn fill(&mut self, rt: &impl Files, given: &Given<'_>) -> bool {
+        if !given.begins {
+            return true;
+        }
+        report::fill_with(&mut self.arena, report::pattern);
+        let rest = self.arena.get_mut(self.way.start..);
+        match rest.and_then(|rest| rest.get_mut(..given.window_length)) {
+            Some(window) => file::load(rt, given.name, b"card", window),
+            None => false,
+        }
+    }
+
+    // Byte i of the arena after the run: in the window as the file has it, beside it the pattern as before.
+    fn wanted_byte(&self, window: &[u8], i: usize) -> u8 {
+        let in_window = i.checked_sub(self.way.start);
+        let byte = in_window.and_then(|at| window.get(at)).copied();
+        byte.unwrap_or(report::pattern(i))
+    }
+
+    // Every byte of the arena, outside the window too. The first that differs is printed.
+    fn compare_bytes<P: Print>(&self, case: &mut Case<'_, P>, window: &[u8]) -> io::Result<()> {
+        for (i, b) in self.arena.iter().enumerate() {
+            let wanted = self.wanted_byte(window, i);
+            if *b != wanted {
+                return case.one_of("arena byte", i, u64::from(*b), u64::from(wanted));
+            }
+        }
+        Ok(())
+    }
+
+    // Reads the window as it should be, and compares the arena.
+    fn compare_arena<P: Print>(
+        &self,
+        rt: &impl Files,
+        case: &mut Case<'_, P>,
+        given: &Given<'_>,
+    ) -> io::Result<()> {
+        let mut room = [0u8; WINDOW];
+        let Some(window) = room.get_mut(..given.window_length) else {
+            return tell_file(case, false);
+        };
+        let whole = file::load(rt, given.name, given.kind_after, window);
+        tell_file(case, whole)?;
+        self.compare_bytes(case, window)
+    }
+
+    // Runs a line, and compares.
+    fn hold<P: Print>(
+        &mut self,
+        rt: &impl Files,
+        case: &mut Case<'_, P>,
+        given: &Given<'_>,
+        code: &[u8],
+    ) -> io::Result<Reply> {
+        let filled = self.fill(rt, given);
+        tell_file(case, filled)?;
+        let session = self.start(given, code);
+        let way = self.way;
+        let reply = way.run(code, &mut self.arena, given.window_length, session);
+        self.session = reply.session;
+        compare(case, given, reply)?;
+        self.compare_arena(rt, case, given)?;
+        Ok(reply)
+    }
 }
 
-// Where a module begins: fills the arena with the pattern, and the window with the module's card. Says whether the card was there.
-fn fill(rt: &impl Files, line: &[u8], arena: &mut [u8], from: usize, len: usize) -> bool {
-    if !given::begins(line) {
-        return true;
+// A file that is not there, or has another length than the line says.
+fn tell_file<P: Print>(case: &mut Case<'_, P>, whole: bool) -> io::Result<()> {
+    if whole {
+        Ok(())
+    } else {
+        case.other("a file is missing, or has another length")
     }
-    report::fill(arena, 0);
-    let end = std::num::wrapping_add_usize(from, len);
-    if from > end {
-        return false;
-    }
-    if end > arena.len() {
-        return false;
-    }
-    file::load(rt, given::name(line), b"card", &mut arena[from..end])
 }
 
 // Prints what is not as the line says, but for the arena.
-fn compare(rt: &impl Print, number: u64, line: &[u8], r: Reply) -> io::Result<Ran> {
-    let outcome = r.outcome;
-    let session = r.session;
-    let found = session::tell(outcome);
-    let t = found.stop;
-    let stop = differ::stop(rt, number, line, found)?;
-    let steps = report::number(rt, number, b"steps", r.steps, text::number(line, 86, 5))?;
-    let after = differ::session(rt, number, line, session)?;
-    Ok(Ran {
-        session: session,
-        steps: r.steps,
-        call: t.carried,
-        differs: stop | steps | after,
-    })
+fn compare<P: Print>(case: &mut Case<'_, P>, given: &Given<'_>, r: Reply) -> io::Result<()> {
+    let Numbers { refused, stop } = Numbers::from(r.outcome);
+    case.decimal("refusal", refused, 0)?;
+    case.field("ecode", stop.ecode, 46, 2)?;
+    case.field("subcode", stop.subcode, 49, 2)?;
+    case.field("carried", stop.carried, 52, 16)?;
+    case.decimal("steps", r.steps, given.steps)?;
+    case.field("pc", r.session.pc.0, 69, 16)?;
+    case.decimal("total", r.session.total, given.total)?;
+    case.registers(&r.session.regs, &given.registers)
 }
 
-// The same for the arena: reads the window as it should be into the room.
-fn compare_arena(
-    rt: &(impl Files + Print),
-    number: u64,
-    line: &[u8],
-    arena: &[u8],
-    from: usize,
-    room: &mut [u8],
-) -> io::Result<bool> {
-    let len = given::window_length(line);
-    if len > room.len() {
-        return differ::file(rt, number, false);
+// Runs a line in both ways, and prints what came of it. Where a module begins, its code is read before.
+fn hold<R: Files + Print>(
+    rt: &R,
+    case: &mut Case<'_, R>,
+    given: &Given<'_>,
+    room: &mut [u8; CODE],
+    runs: &mut (Run, Run),
+) -> io::Result<()> {
+    let Some(code) = room.get_mut(..given.code_length) else {
+        return case.no_case();
+    };
+    let whole = !given.begins || file::load(rt, given.name, b"code", code);
+    if !whole {
+        return tell_file(case, whole);
     }
-    let whole = file::load(
-        rt,
-        given::name(line),
-        given::kind_after(line),
-        &mut room[0..len],
-    );
-    let missing = differ::file(rt, number, whole)?;
-    let bytes = differ::arena(rt, number, arena, &room[0..len], from)?;
-    Ok(missing | bytes)
+    let (in_one_go, in_slices) = runs;
+    let reply = in_one_go.hold(rt, case, given, code)?;
+    in_slices.hold(rt, case, given, code)?;
+    let Numbers { stop, .. } = Numbers::from(reply.outcome);
+    given.print_result(rt, reply.steps, stop.carried, case.differs)
 }
 
-// Runs a line in one way.
-fn hold(
-    rt: &(impl Files + Print),
-    number: u64,
-    line: &[u8],
-    w: Way,
-    code: &[u8],
-    arena: &mut [u8],
-    before: Session,
-) -> io::Result<Ran> {
-    let mut room = [0u8; WINDOW];
-    let len = given::window_length(line);
-    let filled = fill(rt, line, arena, w.start, len);
-    let missing = differ::file(rt, number, filled)?;
-    let session = start(line, code, before);
-    let r = way::run(code, arena, len, session, w);
-    let ran = compare(rt, number, line, r)?;
-    let bytes = compare_arena(rt, number, line, arena, w.start, &mut room)?;
-    let after = ran.session;
-    Ok(Ran {
-        session: after,
-        steps: ran.steps,
-        call: ran.call,
-        differs: ran.differs | bytes | missing,
-    })
-}
-
-// The sessions of both ways, and whether there was a line.
-#[derive(Drop)]
-struct Both {
-    more: bool,
-    one: Session,
-    sliced: Session,
-}
-
-// Runs a line in both ways, and prints what came of it.
-fn hold_both(
-    rt: &(impl Files + Print),
-    number: u64,
-    line: &[u8],
-    code: &[u8],
-    first: &mut [u8; ARENA],
-    second: &mut [u8; ARENA],
-    b: Both,
-) -> io::Result<Both> {
-    let one = b.one;
-    let sliced = b.sliced;
-    let x = hold(rt, number, line, Way::in_one_go(), code, first, one)?;
-    let y = hold(rt, number, line, Way::in_slices(), code, second, sliced)?;
-    given::print_result(rt, line, x.steps, x.call, x.differs | y.differs)?;
-    let one_after = x.session;
-    let sliced_after = y.session;
-    Ok(Both {
-        more: true,
-        one: one_after,
-        sliced: sliced_after,
-    })
-}
-
-// Where a module begins: reads its code, and says whether it was there.
-fn load_code(rt: &impl Files, line: &[u8], code: &mut [u8]) -> bool {
-    if !given::begins(line) {
-        return true;
-    }
-    file::load(rt, given::name(line), b"code", code)
-}
-
-fn hold_line(
-    rt: &(impl Files + Print),
-    number: u64,
-    line: &[u8],
-    code: &mut [u8],
-    first: &mut [u8; ARENA],
-    second: &mut [u8; ARENA],
-    b: Both,
-) -> io::Result<Both> {
-    let len = given::code_length(line);
-    if len > code.len() || !given::well_made(line) {
-        report::no_case(rt, number)?;
-        return Ok(b);
-    }
-    let whole = load_code(rt, line, &mut code[0..len]);
-    if differ::file(rt, number, whole)? {
-        return Ok(b);
-    }
-    hold_both(rt, number, line, &code[0..len], first, second, b)
-}
-
-fn take_line(
-    rt: &(impl Files + Input + Print),
-    number: u64,
-    code: &mut [u8; CODE],
-    first: &mut [u8; ARENA],
-    second: &mut [u8; ARENA],
-    b: Both,
-) -> io::Result<Both> {
-    let mut line = [0u8; given::LINE];
-    let n = report::read_full(&mut rt.reader(), &mut line)?;
-    if n == given::LINE {
-        return hold_line(rt, number, &line, code, first, second, b);
-    }
-    if n != 0 {
-        report::print_cut(rt)?;
-    }
-    let one = b.one;
-    let sliced = b.sliced;
-    Ok(Both {
-        more: false,
-        one: one,
-        sliced: sliced,
-    })
-}
-
-// A proved loop has to end, and nothing says that the input does: so the turns are counted up to a number that no run reaches.
+// A proved loop has to end, and nothing says that the input does: so the lines are numbered up to a number that no run reaches.
 fn main(rt: HostRuntime) -> io::Result<()> {
     let mut code = [0u8; CODE];
-    let mut first = [0u8; ARENA];
-    let mut second = [0u8; ARENA];
-    let mut b = Both {
-        more: true,
-        one: Session::start(),
-        sliced: Session::start(),
-    };
-    for turn in 0..u64::MAX {
-        b = take_line(&rt, turn + 1, &mut code, &mut first, &mut second, b)?;
-        if !b.more {
+    let mut runs = (Run::new(Way::IN_ONE_GO), Run::new(Way::IN_SLICES));
+    for (number, line) in (1..u64::MAX).zip(Lines::<_, LINE>::new(rt.reader())) {
+        let Line::Whole(line) = line? else {
+            lines::print_cut(&rt)?;
             break;
+        };
+        let mut case = Case::new(&rt, number, &line);
+        match Given::of(&line) {
+            Some(given) => hold(&rt, &mut case, &given, &mut code, &mut runs)?,
+            None => case.no_case()?,
         }
     }
     Ok(())

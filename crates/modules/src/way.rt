@@ -11,55 +11,40 @@ pub struct Way {
 }
 
 impl Way {
-    pub fn in_one_go() -> Way {
-        Way {
-            start: 4099,
-            slice: Session::BUDGET,
-            runs: 1,
-        }
-    }
+    pub const IN_ONE_GO: Way = Way {
+        start: 4099,
+        slice: Session::BUDGET,
+        runs: 1,
+    };
 
     // As a server shares its time.
-    pub fn in_slices() -> Way {
-        Way {
-            start: 37,
-            slice: 1999,
-            runs: 1000,
-        }
-    }
-}
-
-fn spent(outcome: Outcome) -> bool {
-    match outcome {
-        Outcome::Stopped(stop) => match stop {
-            Stop::Spent => true,
-            Stop::Raised(_) => false,
-        },
-        Outcome::Answered => false,
-        Outcome::Refused(_) => false,
-    }
-}
-
-// Runs a session until it stops, as often as the way allows. The steps of all its runs count.
-pub fn run(code: &[u8], arena: &mut [u8], len: usize, session: Session, way: Way) -> Reply {
-    let window = Window {
-        start: ArenaOffset(way.start),
-        len: len,
+    pub const IN_SLICES: Way = Way {
+        start: 37,
+        slice: 1999,
+        runs: 1000,
     };
-    let mut now = session;
-    let mut outcome = Outcome::Stopped(Stop::Spent);
-    let mut steps: u64 = 0;
-    let mut runs = way.runs;
-    while runs > 0 {
-        let r = host::run(code, arena, window, now, way.slice);
-        now = r.session;
-        outcome = r.outcome;
-        steps = std::num::wrapping_add_u64(steps, r.steps);
-        runs = if spent(outcome) { runs - 1 } else { 0 };
-    }
-    Reply {
-        outcome: outcome,
-        steps: steps,
-        session: now,
+
+    // Runs a session until it stops, as often as the way allows. The steps of all its runs count.
+    pub fn run(&self, code: &[u8], arena: &mut [u8], len: usize, session: Session) -> Reply {
+        let window = Window {
+            start: ArenaOffset(self.start),
+            len,
+        };
+        let mut reply = Reply {
+            outcome: Outcome::Stopped(Stop::Spent),
+            steps: 0,
+            session,
+        };
+        for _ in 0..self.runs {
+            let run = host::run(code, arena, window, reply.session, self.slice);
+            reply = Reply {
+                steps: reply.steps.wrapping_add(run.steps),
+                ..run
+            };
+            if !matches!(reply.outcome, Outcome::Stopped(Stop::Spent)) {
+                break;
+            }
+        }
+        reply
     }
 }

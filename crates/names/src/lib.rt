@@ -2,137 +2,152 @@
 // field's own value, and signed where the manual sign-extends it: `beq r4, r5, -3` goes three words back.
 #![tactic(auto)]
 
-mod line;
 mod mnemonics;
 
 use alu::Immediate;
-use isa::{Decoded, FieldOperands, HintOperands, Instruction, Jump, Operands, Preload};
-pub use line::{Line, put};
+use isa::{Config, FieldOperands, HintOperands, Instruction, Jump, Operands, Preload};
+use std::fmt;
 
 // How many values the signed fields have: si12, si14, offs16 and si16, si20, offs21, offs26.
-const SI12: u64 = 0x1000;
+const SI12: u32 = 0x1000;
 
-const SI14: u64 = 0x4000;
+const SI14: u32 = 0x4000;
 
-const SI16: u64 = 0x1_0000;
+const SI16: u32 = 0x1_0000;
 
-const SI20: u64 = 0x10_0000;
+const SI20: u32 = 0x10_0000;
 
-const OFFS21: u64 = 0x20_0000;
+const OFFS21: u32 = 0x20_0000;
 
-const OFFS26: u64 = 0x400_0000;
+const OFFS26: u32 = 0x400_0000;
 
-// rd, rj
-fn pair(name: Line, o: Operands) -> Line {
-    name.register(o.rd).comma().register(o.rj)
-}
-
-// rd, rj, rk
-fn triple(name: Line, o: Operands) -> Line {
-    pair(name, o).comma().register(o.rk)
-}
-
-// rd, rj, a number that is not signed
-fn plain(name: Line, o: Operands) -> Line {
-    pair(name, o).comma().number(o.imm)
-}
-
-// rd, rj, a signed number
-fn signed(name: Line, o: Operands, values: u64) -> Line {
-    pair(name, o).comma().signed(o.imm, values)
-}
-
-// rd, rj, rk, a number that is not signed
-fn picked(name: Line, o: Operands) -> Line {
-    triple(name, o).comma().number(o.imm)
-}
-
-// ANDI, ORI and XORI take their number as it is.
-fn immediate(name: Line, op: Immediate, o: Operands) -> Line {
-    match op {
-        Immediate::Andi | Immediate::Ori | Immediate::Xori => plain(name, o),
-        Immediate::Addu16iD => signed(name, o, SI16),
-        _ => signed(name, o, SI12),
+// The number that a field stands for: the upper half of its values stands for the numbers below 0.
+fn signed(field: u32, values: u32) -> i64 {
+    if field < values / 2 {
+        i64::from(field)
+    } else {
+        i64::from(field) - i64::from(values)
     }
 }
 
-// rd, si20
-fn upper(name: Line, o: Operands) -> Line {
-    name.register(o.rd).comma().signed(o.imm, SI20)
+// rd, rj
+fn pair<W: fmt::Write>(f: &mut fmt::Formatter<W>, name: &str, o: Operands) -> fmt::Result {
+    write!(f, "{name} r{}, r{}", o.rd, o.rj)
+}
+
+// rd, rj, rk
+fn triple<W: fmt::Write>(f: &mut fmt::Formatter<W>, name: &str, o: Operands) -> fmt::Result {
+    write!(f, "{name} r{}, r{}, r{}", o.rd, o.rj, o.rk)
+}
+
+// rd, rj, rk, a number that is not signed
+fn picked<W: fmt::Write>(f: &mut fmt::Formatter<W>, name: &str, o: Operands) -> fmt::Result {
+    write!(f, "{name} r{}, r{}, r{}, {}", o.rd, o.rj, o.rk, o.imm)
+}
+
+// rd, rj, a number
+fn numbered<W: fmt::Write>(
+    f: &mut fmt::Formatter<W>,
+    name: &str,
+    o: Operands,
+    number: i64,
+) -> fmt::Result {
+    write!(f, "{name} r{}, r{}, {number}", o.rd, o.rj)
+}
+
+// ANDI, ORI and XORI take their number as it is.
+fn immediate(op: Immediate, field: u32) -> i64 {
+    match op {
+        Immediate::Andi | Immediate::Ori | Immediate::Xori => i64::from(field),
+        Immediate::Addu16iD => signed(field, SI16),
+        _ => signed(field, SI12),
+    }
 }
 
 // rd, rj, msb, lsb
-fn field(name: Line, o: FieldOperands) -> Line {
-    let line = name.register(o.rd).comma().register(o.rj).comma();
-    line.number(o.msb).comma().number(o.lsb as u32)
+fn field<W: fmt::Write>(f: &mut fmt::Formatter<W>, name: &str, o: FieldOperands) -> fmt::Result {
+    write!(f, "{name} r{}, r{}, {}, {}", o.rd, o.rj, o.msb, o.lsb)
 }
 
 // rj, rd, offs16
-fn branch(name: Line, o: Operands) -> Line {
-    let line = name.register(o.rj).comma().register(o.rd);
-    line.comma().signed(o.imm, SI16)
-}
-
-// rj, offs21
-fn zero_branch(name: Line, o: Operands) -> Line {
-    name.register(o.rj).comma().signed(o.imm, OFFS21)
+fn branch<W: fmt::Write>(f: &mut fmt::Formatter<W>, name: &str, o: Operands) -> fmt::Result {
+    write!(f, "{name} r{}, r{}, {}", o.rj, o.rd, signed(o.imm, SI16))
 }
 
 // B and BL have an offset alone.
-fn jump(name: Line, op: Jump, o: Operands) -> Line {
+fn jump<W: fmt::Write>(f: &mut fmt::Formatter<W>, op: Jump, o: Operands) -> fmt::Result {
+    let name = mnemonics::jump(op);
     match op {
-        Jump::Jirl => signed(name, o, SI16),
-        _ => name.signed(o.imm, OFFS26),
+        Jump::Jirl => numbered(f, name, o, signed(o.imm, SI16)),
+        Jump::B | Jump::Bl => write!(f, "{name} {}", signed(o.imm, OFFS26)),
     }
 }
 
 // hint, rj, and an offset or a register
-fn preload(name: Line, op: Preload, o: HintOperands) -> Line {
-    let line = name.number(o.hint as u32);
-    let both = line.comma().register(o.rj).comma();
+fn preload<W: fmt::Write>(f: &mut fmt::Formatter<W>, op: Preload, o: HintOperands) -> fmt::Result {
     match op {
-        Preload::Preld => both.signed(o.imm, SI12),
-        Preload::Preldx => both.register(o.rk),
+        Preload::Preld => write!(f, "preld {}, r{}, {}", o.hint, o.rj, signed(o.imm, SI12)),
+        Preload::Preldx => write!(f, "preldx {}, r{}, r{}", o.hint, o.rj, o.rk),
     }
 }
 
-// a hint or a code
-fn lone(name: Line, o: Operands) -> Line {
-    name.number(o.imm)
-}
+// An instruction that is shown as text.
+#[derive(Clone, Copy)]
+pub struct Text(pub Instruction);
 
-// rj, rk
-fn assertion(name: Line, o: Operands) -> Line {
-    name.register(o.rj).comma().register(o.rk)
-}
-
-pub fn text(i: Instruction) -> Line {
-    let r = numbered::of(Decoded::Known(i));
-    let name = mnemonics::mnemonic(r.family, r.operation);
-    match i {
-        Instruction::Alu(_, o) => triple(name, o),
-        Instruction::Product(_, o) => triple(name, o),
-        Instruction::Division(_, o) => triple(name, o),
-        Instruction::Shift(_, o) => triple(name, o),
-        Instruction::ShiftImmediate(_, o) => plain(name, o),
-        Instruction::Immediate(op, o) => immediate(name, op, o),
-        Instruction::Upper(_, o) => upper(name, o),
-        Instruction::Alsl(_, o) => picked(name, o),
-        Instruction::Bytepick(_, o) => picked(name, o),
-        Instruction::Unary(_, o) => pair(name, o),
-        Instruction::Field(_, o) => field(name, o),
-        Instruction::Branch(_, o) => branch(name, o),
-        Instruction::ZeroBranch(_, o) => zero_branch(name, o),
-        Instruction::Jump(op, o) => jump(name, op, o),
-        Instruction::Load(_, o) => signed(name, o, SI12),
-        Instruction::LoadIndexed(_, o) => triple(name, o),
-        Instruction::Store(_, o) => signed(name, o, SI12),
-        Instruction::StoreIndexed(_, o) => triple(name, o),
-        Instruction::Pointer(_, o) => signed(name, o, SI14),
-        Instruction::Preload(op, o) => preload(name, op, o),
-        Instruction::Barrier(_, o) => lone(name, o),
-        Instruction::Trap(_, o) => lone(name, o),
-        Instruction::Assert(_, o) => assertion(name, o),
-        Instruction::Config(_, o) => pair(name, o),
+impl fmt::Display for Text {
+    fn fmt<W: fmt::Write>(&self, f: &mut fmt::Formatter<W>) -> fmt::Result {
+        match self.0 {
+            Instruction::Alu(op, o) => triple(f, mnemonics::alu(op), o),
+            Instruction::Product(op, o) => triple(f, mnemonics::product(op), o),
+            Instruction::Division(op, o) => triple(f, mnemonics::division(op), o),
+            Instruction::Shift(op, o) => triple(f, mnemonics::shift(op), o),
+            Instruction::ShiftImmediate(op, o) => {
+                numbered(f, mnemonics::shift_immediate(op), o, i64::from(o.imm))
+            }
+            Instruction::Immediate(op, o) => {
+                numbered(f, mnemonics::immediate(op), o, immediate(op, o.imm))
+            }
+            Instruction::Upper(op, o) => {
+                write!(
+                    f,
+                    "{} r{}, {}",
+                    mnemonics::upper(op),
+                    o.rd,
+                    signed(o.imm, SI20)
+                )
+            }
+            Instruction::Alsl(op, o) => picked(f, mnemonics::alsl(op), o),
+            Instruction::Bytepick(op, o) => picked(f, mnemonics::bytepick(op), o),
+            Instruction::Unary(op, o) => pair(f, mnemonics::unary(op), o),
+            Instruction::Field(op, o) => field(f, mnemonics::field(op), o),
+            Instruction::Branch(op, o) => branch(f, mnemonics::branch(op), o),
+            Instruction::ZeroBranch(op, o) => {
+                write!(
+                    f,
+                    "{} r{}, {}",
+                    mnemonics::zero_branch(op),
+                    o.rj,
+                    signed(o.imm, OFFS21)
+                )
+            }
+            Instruction::Jump(op, o) => jump(f, op, o),
+            Instruction::Load(op, o) => { numbered(f, mnemonics::load(op), o, signed(o.imm, SI12)) }
+            Instruction::LoadIndexed(op, o) => triple(f, mnemonics::load_indexed(op), o),
+            Instruction::Store(op, o) => {
+                numbered(f, mnemonics::store(op), o, signed(o.imm, SI12))
+            }
+            Instruction::StoreIndexed(op, o) => triple(f, mnemonics::store_indexed(op), o),
+            Instruction::Pointer(op, o) => {
+                numbered(f, mnemonics::pointer(op), o, signed(o.imm, SI14))
+            }
+            Instruction::Preload(op, o) => preload(f, op, o),
+            Instruction::Barrier(op, o) => write!(f, "{} {}", mnemonics::barrier(op), o.imm),
+            Instruction::Trap(op, o) => write!(f, "{} {}", mnemonics::trap(op), o.imm),
+            Instruction::Assert(op, o) => {
+                write!(f, "{} r{}, r{}", mnemonics::assertion(op), o.rj, o.rk)
+            }
+            Instruction::Config(Config::Cpucfg, o) => pair(f, "cpucfg", o),
+        }
     }
 }

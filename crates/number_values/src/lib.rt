@@ -1,4 +1,5 @@
 // Each family of arithmetic on its operands: the registers and fields that it takes, and what it makes of them.
+// A function for each family, and no trait over the families: an impl for each would name the same value function again, in more lines.
 
 #![tactic(auto)]
 

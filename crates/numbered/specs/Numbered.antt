@@ -1,10 +1,9 @@
 -- A decoded word as plain numbers. Families count from 1 in the order of `Instruction`; 0 says "no such instruction", and then all else is 0.
-use Rattle.std.specs.Prelude.{ℕ}
+use Rattle.std.specs.Prelude.{ℕ, Option, Some, None}
 use Rattle.isa.specs.declared.Operands.{Operands}
 use Rattle.isa.specs.declared.FieldOperands.{FieldOperands}
 use Rattle.isa.specs.declared.HintOperands.{HintOperands}
 use Rattle.isa.specs.declared.Instruction.{Instruction}
-use Rattle.isa.specs.declared.Decoded.{Decoded}
 use Rattle.numbered.specs.declared.DecodedRecord.{DecodedRecord}
 use Rattle.numbered.specs.Operations.{alu_number, product_number, division_number, shift_number, immediate_number, upper_number, alsl_number, bytepick_number, unary_number, field_number, branch_number, zero_branch_number, jump_number, load_number, store_number, pointer_number, preload_number, barrier_number, trap_number, assert_number}
 
@@ -45,6 +44,6 @@ instruction_numbers (Instruction.Trap op o) = plain_of 22 (trap_number op) o
 instruction_numbers (Instruction.Assert op o) = plain_of 23 (assert_number op) o
 instruction_numbers (Instruction.Config op o) = plain_of 24 0 o
 
-abbrev pub numbered_of : Decoded → DecodedRecord
-numbered_of (Decoded.Known i) = instruction_numbers i
-numbered_of Decoded.Unknown = record { family = 0; operation = 0; rd = 0; rj = 0; rk = 0; imm = 0 }
+abbrev pub numbered_of : Option Instruction → DecodedRecord
+numbered_of (Some i) = instruction_numbers i
+numbered_of None = record { family = 0; operation = 0; rd = 0; rj = 0; rk = 0; imm = 0 }

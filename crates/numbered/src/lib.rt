@@ -2,16 +2,14 @@
 
 #![tactic(auto)]
 
-mod operations;
-
 ghost use Rattle.std.specs.Prelude.{◌≡◌};
 ghost use Rattle.numbered.specs.Numbered.{plain_of, field_of, hint_of, instruction_numbers, numbered_of};
 
-use isa::{Decoded, FieldOperands, HintOperands, Instruction, Operands};
+use isa::{FieldOperands, HintOperands, Instruction, Operands};
 
 // The record that crosses to C: numbers only. Family 0 is "no such instruction".
 #[repr(C)]
-#[derive(Clone, Copy)]
+#[derive(Clone, Copy, PartialEq, Eq, Default)]
 pub struct DecodedRecord {
     pub family: u64,
     pub operation: u64,
@@ -21,6 +19,7 @@ pub struct DecodedRecord {
     pub imm: u64,
 }
 
+// Three functions, one for each struct of operands: a trait over the three is no plainer, since it would have these bodies in its impls.
 fn plain(family: u64, operation: u64, o: Operands) -> DecodedRecord
     ensures { result ≡ plain_of family operation o }
 {
@@ -60,50 +59,47 @@ fn hint(family: u64, operation: u64, o: HintOperands) -> DecodedRecord
     }
 }
 
-fn instruction(i: Instruction) -> DecodedRecord
-    ensures { result ≡ instruction_numbers i }
-{
-    match i {
-        Instruction::Alu(op, o) => plain(1, operations::alu_number(op), o),
-        Instruction::Product(op, o) => plain(2, operations::product_number(op), o),
-        Instruction::Division(op, o) => plain(3, operations::division_number(op), o),
-        Instruction::Shift(op, o) => plain(4, operations::shift_number(op), o),
-        Instruction::ShiftImmediate(op, o) => plain(5, operations::shift_number(op), o),
-        Instruction::Immediate(op, o) => plain(6, operations::immediate_number(op), o),
-        Instruction::Upper(op, o) => plain(7, operations::upper_number(op), o),
-        Instruction::Alsl(op, o) => plain(8, operations::alsl_number(op), o),
-        Instruction::Bytepick(op, o) => plain(9, operations::bytepick_number(op), o),
-        Instruction::Unary(op, o) => plain(10, operations::unary_number(op), o),
-        Instruction::Field(op, o) => field(11, operations::field_number(op), o),
-        Instruction::Branch(op, o) => plain(12, operations::branch_number(op), o),
-        Instruction::ZeroBranch(op, o) => plain(13, operations::zero_branch_number(op), o),
-        Instruction::Jump(op, o) => plain(14, operations::jump_number(op), o),
-        Instruction::Load(op, o) => plain(15, operations::load_number(op), o),
-        Instruction::LoadIndexed(op, o) => plain(16, operations::load_number(op), o),
-        Instruction::Store(op, o) => plain(17, operations::store_number(op), o),
-        Instruction::StoreIndexed(op, o) => plain(18, operations::store_number(op), o),
-        Instruction::Pointer(op, o) => plain(19, operations::pointer_number(op), o),
-        Instruction::Preload(op, o) => hint(20, operations::preload_number(op), o),
-        Instruction::Barrier(op, o) => plain(21, operations::barrier_number(op), o),
-        Instruction::Trap(op, o) => plain(22, operations::trap_number(op), o),
-        Instruction::Assert(op, o) => plain(23, operations::assert_number(op), o),
-        Instruction::Config(_, o) => plain(24, 0, o),
+impl From<Instruction> for DecodedRecord {
+    ghost from_gives = { λ i r. r ≡ instruction_numbers i };
+
+    fn from(i: Instruction) -> DecodedRecord {
+        match i {
+            Instruction::Alu(op, o) => plain(1, op as u64, o),
+            Instruction::Product(op, o) => plain(2, op as u64, o),
+            Instruction::Division(op, o) => plain(3, op as u64, o),
+            Instruction::Shift(op, o) => plain(4, op as u64, o),
+            Instruction::ShiftImmediate(op, o) => plain(5, op as u64, o),
+            Instruction::Immediate(op, o) => plain(6, op as u64, o),
+            Instruction::Upper(op, o) => plain(7, op as u64, o),
+            Instruction::Alsl(op, o) => plain(8, op as u64, o),
+            Instruction::Bytepick(op, o) => plain(9, op as u64, o),
+            Instruction::Unary(op, o) => plain(10, op as u64, o),
+            Instruction::Field(op, o) => field(11, op as u64, o),
+            Instruction::Branch(op, o) => plain(12, op as u64, o),
+            Instruction::ZeroBranch(op, o) => plain(13, op as u64, o),
+            Instruction::Jump(op, o) => plain(14, op as u64, o),
+            Instruction::Load(op, o) => plain(15, op as u64, o),
+            Instruction::LoadIndexed(op, o) => plain(16, op as u64, o),
+            Instruction::Store(op, o) => plain(17, op as u64, o),
+            Instruction::StoreIndexed(op, o) => plain(18, op as u64, o),
+            Instruction::Pointer(op, o) => plain(19, op as u64, o),
+            Instruction::Preload(op, o) => hint(20, op as u64, o),
+            Instruction::Barrier(op, o) => plain(21, op as u64, o),
+            Instruction::Trap(op, o) => plain(22, op as u64, o),
+            Instruction::Assert(op, o) => plain(23, op as u64, o),
+            Instruction::Config(_, o) => plain(24, 0, o),
+        }
     }
 }
 
 // The numbers of what decoding gave.
-pub fn of(d: Decoded) -> DecodedRecord
-    ensures { result ≡ numbered_of d }
-{
-    match d {
-        Decoded::Known(i) => instruction(i),
-        Decoded::Unknown => DecodedRecord {
-            family: 0,
-            operation: 0,
-            rd: 0,
-            rj: 0,
-            rk: 0,
-            imm: 0,
-        },
+impl From<Option<Instruction>> for DecodedRecord {
+    ghost from_gives = { λ d r. r ≡ numbered_of d };
+
+    fn from(d: Option<Instruction>) -> DecodedRecord {
+        match d {
+            Some(i) => DecodedRecord::from(i),
+            None => DecodedRecord::default(),
+        }
     }
 }

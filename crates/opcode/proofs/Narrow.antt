@@ -1,5 +1,6 @@
 -- Reading the table by a word's first bits: a word that begins so is decoded by the rows that begin so. Every step is a computed test over
 -- the table, so that a row needs no proof of its own here. Assumes nothing.
+use Rattle.std.specs.Prelude.{Option, Some, None}
 use mathlib.Core.Path.{◌≡◌, refl, sym, ap, ◌∙◌, subst}
 use Prim.Native.Nat.{ℕ, ◌+◌, ◌-◌, ◌*◌, ◌/◌, ◌%◌, ◌^◌, ◌<◌, ◌≤◌}
 use native.Mathlib.Omega.{arith}
@@ -15,8 +16,7 @@ use Rattle.isa.specs.Format.{opcode, Place, places, gather, values}
 use Rattle.opcode.specs.Table.{Row}
 use Rattle.opcode.specs.Families.{Entry, table}
 use Rattle.opcode.specs.Decode.{has, decode_in, decode_of}
-use Rattle.isa.specs.declared.Decoded.{Decoded}
-use Rattle.isa.specs.declared.Decoded.TheVariants.{Known, Unknown}
+use Rattle.isa.specs.declared.Instruction.{Instruction}
 use Rattle.isa.proofs.Places.{Agree, agree, in_value, joins, lone, and_l, and_r}
 
 -- the places of a row's opcode
@@ -94,10 +94,10 @@ leafs n k (e ∷ []) = wholly n k e.row (code_places e.row)
 leafs n k (e ∷ f ∷ es) = false
 
 -- what it makes of a word that has its opcode
-abbrev pub leaf_of : List Entry → ℕ → Decoded
-leaf_of [] w = Unknown
-leaf_of (e ∷ []) w = cond (e.row.format.allows (values e.row.format w)) (Known (e.make (values e.row.format w))) Unknown
-leaf_of (e ∷ f ∷ es) w = Unknown
+abbrev pub leaf_of : List Entry → ℕ → Option Instruction
+leaf_of [] w = None
+leaf_of (e ∷ []) w = cond (e.row.format.allows (values e.row.format w)) (Some (e.make (values e.row.format w))) None
+leaf_of (e ∷ f ∷ es) w = None
 
 -- a number is none of the keys, as the last arm of a `match` knows it
 abbrev pub Misses : Type 0 → List ℕ → ℕ → Type 0
@@ -152,13 +152,13 @@ module _ (w : ℕ) (h : w < 2 ^ 32) where
       not_had false p u = refl
 
       by : (x : Bool) → fits m k e.row ≡ x → decode_in es w ≡ decode_in (under m k es) w → decode_in (e ∷ es) w ≡ decode_in (cond x (e ∷ under m k es) (under m k es)) w
-      by true p ih = ap (cond (has e.row w) (Known (e.make (values e.row.format w)))) ih
-      by false p ih = ap (λ (x : Bool). cond x (Known (e.make (values e.row.format w))) (decode_in es w)) (not_had (has e.row w) p refl) ∙ ih
+      by true p ih = ap (cond (has e.row w) (Some (e.make (values e.row.format w)))) ih
+      by false p ih = ap (λ (x : Bool). cond x (Some (e.make (values e.row.format w))) (decode_in es w)) (not_had (has e.row w) p refl) ∙ ih
 
-  none_in : (n : ℕ) (ks : List ℕ) → (T (member (w / 2 ^ n) ks) → ⊥) → (es : List Entry) → T (every (among n ks) es) → decode_in es w ≡ Unknown
+  none_in : (n : ℕ) (ks : List ℕ) → (T (member (w / 2 ^ n) ks) → ⊥) → (es : List Entry) → T (every (among n ks) es) → decode_in es w ≡ None
   none_in n ks off [] t = refl
   none_in n ks off (e ∷ es) t =
-      ap (λ (x : Bool). cond x (Known (e.make (values e.row.format w))) (decode_in es w)) (not_had (has e.row w) refl)
+      ap (λ (x : Bool). cond x (Some (e.make (values e.row.format w))) (decode_in es w)) (not_had (has e.row w) refl)
       ∙ none_in n ks off es (and_r (among n ks e.row) _ t)
     where
       here : T (among n ks e.row)
@@ -188,7 +188,7 @@ module _ (w : ℕ) (h : w < 2 ^ 32) where
   leaf_in : (n k : ℕ) → w / 2 ^ n ≡ k → (es : List Entry) → T (leafs n k es) → decode_in es w ≡ leaf_of es w
   leaf_in n k q [] t = refl
   leaf_in n k q (e ∷ []) t =
-      ap (λ (x : Bool). cond (x && e.row.format.allows (values e.row.format w)) (Known (e.make (values e.row.format w))) Unknown)
+      ap (λ (x : Bool). cond (x && e.row.format.allows (values e.row.format w)) (Some (e.make (values e.row.format w))) None)
       (eq-eqb (values e.row.format w opcode) e.row.code (has_code n k q e.row (code_places e.row) t))
   leaf_in n k q (e ∷ f ∷ es) t = absurd t
 
@@ -239,7 +239,7 @@ module _ {w : ℕ} (f : Fits w32 w) where
   leaf n {k} q t = sym (narrow n q ∙ leaf_in w h n k q (under n k table) t)
 
   -- the last arm: of the words that begin with k, only those have a row that begin with one of the keys; the arms stand in the table's order
-  pub rest : (m n : ℕ) {k : ℕ} → w / 2 ^ m ≡ k → Misses Unit (keys n (under m k table)) (w / 2 ^ n) → T (every (among n (keys n (under m k table))) (under m k table)) → Unknown ≡ decode_of w
+  pub rest : (m n : ℕ) {k : ℕ} → w / 2 ^ m ≡ k → Misses Unit (keys n (under m k table)) (w / 2 ^ n) → T (every (among n (keys n (under m k table))) (under m k table)) → None ≡ decode_of w
   rest m n {k} q p t = sym (narrow m q ∙ none_in w h n (keys n (under m k table)) (missed {P = Unit} (keys n (under m k table)) (w / 2 ^ n) p).1 (under m k table) t)
 
   -- an arm of which one more bit decides

@@ -9,72 +9,46 @@
 
 mod given;
 
-use given::Given;
+use printed::PAGE;
+use report::lines;
+use report::lines::{Line, Lines};
+use report::tally::Tally;
 use std::io;
 
 // Whether a byte of the page past the text is another one than before.
-fn changed(page: &[u8; printed::PAGE], len: usize) -> bool {
-    let mut any = false;
-    for i in 0usize..printed::PAGE {
-        any = any || i >= len && page[i] != report::pattern(i);
-    }
-    any
+fn changed(page: &[u8; PAGE], len: usize) -> bool {
+    let mut past = page.iter().enumerate().skip(len);
+    past.any(|(i, b)| *b != report::pattern(i))
 }
 
 // Prints a line's outcome, and says whether the rest of the page changed.
 fn print_case(rt: &impl Print, line: &[u8]) -> io::Result<bool> {
-    let Given::Case(outcome) = given::outcome(line) else {
+    let Some(reply) = given::reply(line) else {
         println!(rt; "it is no case")?;
         return Ok(true);
     };
-    let mut page = [0u8; printed::PAGE];
-    report::fill(&mut page, 0);
-    let len = printed::print(given::reply(line, outcome), &mut page);
+    let mut page = [0u8; PAGE];
+    report::fill_with(&mut page, report::pattern);
+    let len = printed::print(reply, &mut page);
     rt.write_all(&page[..len])?;
     Ok(changed(&page, len))
 }
 
-// Whether there was a line, and whether its page changed past the text.
-#[derive(Drop)]
-struct Taken {
-    more: bool,
-    changed: bool,
+fn print_totals(rt: &impl Print, pages: Tally) -> io::Result<()> {
+    let Tally { cases, differ } = pages;
+    println!(rt; "{cases} outcomes, {differ} pages with a byte changed past the text")
 }
 
-fn take_line(rt: &(impl Input + Print), number: u64) -> io::Result<Taken> {
-    let mut line = [0u8; given::LINE];
-    let n = report::read_full(&mut rt.reader(), &mut line)?;
-    if n == given::LINE {
-        println!(rt; "case {number}")?;
-        return Ok(Taken {
-            more: true,
-            changed: print_case(rt, &line)?,
-        });
-    }
-    if n != 0 {
-        report::print_cut(rt)?;
-    }
-    Ok(Taken {
-        more: false,
-        changed: false,
-    })
-}
-
-fn print_totals(rt: &impl Print, done: u64, bad: u64) -> io::Result<()> {
-    println!(rt; "{done} outcomes, {bad} pages with a byte changed past the text")
-}
-
-// A proved loop has to end, and nothing says that the input does: so the turns are counted up to a number that no run reaches.
+// A proved loop has to end, and nothing says that the input does: so the lines are numbered up to a number that no run reaches.
 fn main(rt: HostRuntime) -> io::Result<()> {
-    let mut done: u64 = 0;
-    let mut bad: u64 = 0;
-    for _ in 0..u64::MAX {
-        let t = take_line(&rt, report::more_if(done, true))?;
-        bad = report::more_if(bad, t.changed);
-        done = report::more_if(done, t.more);
-        if !t.more {
+    let mut pages = Tally::default();
+    for (number, line) in (1..u64::MAX).zip(Lines::<_, { given::LINE }>::new(rt.reader())) {
+        let Line::Whole(line) = line? else {
+            lines::print_cut(&rt)?;
             break;
-        }
+        };
+        println!(rt; "case {number}")?;
+        pages.count(print_case(&rt, &line)?);
     }
-    print_totals(&rt, done, bad)
+    print_totals(&rt, pages)
 }

@@ -1,108 +1,37 @@
-// The parts of a word, by the manual's names. A part that lies in several formats is named by one of them.
+// The parts of a word, read where their format has them.
 
 #![tactic(auto)]
 
-ghost use Rattle.std.specs.Prelude.{◌≡◌};
-ghost use Rattle.isa.specs.Format.{rd, rj, rk, imm, lsb, msb, values, r3, r3i2, r3i3, r2i5, r2i6, r2i12, r2i14, r2i16, r1i20, r1i21, i26, i15, field_w, field_d};
+ghost use Rattle.std.specs.Prelude.{◌≡◌, ◌≤◌, ◌+◌};
+ghost use Rattle.parts.specs.Piece.{bits_from, offset_with};
 
-pub fn rd_of(word: u32) -> u8
-    ensures { result ≡ values r3 word rd }
+// Where the number of a register begins.
+pub const RD: u32 = 0;
+
+pub const RJ: u32 = 5;
+
+pub const RK: u32 = 10;
+
+// The `SIZE` bits from bit `AT` up.
+pub fn bits<const AT: u32, const SIZE: u32>(word: u32) -> u32
+    requires { AT + SIZE ≤ 31 }
+    ensures { result ≡ bits_from AT SIZE word }
 {
-    (word % 0x20) as u8
+    (word >> AT) % (1 << SIZE)
 }
 
-pub fn rj_of(word: u32) -> u8
-    ensures { result ≡ values r3 word rj }
+// The register whose number begins at bit `AT`.
+pub fn register<const AT: u32>(word: u32) -> u8
+    requires { AT ≤ 26 }
+    ensures { result ≡ bits_from AT 5 word }
 {
-    (word / 0x20 % 0x20) as u8
+    bits::<AT, 5>(word) as u8
 }
 
-pub fn rk_of(word: u32) -> u8
-    ensures { result ≡ values r3 word rk }
+// An offset in two pieces: bits 25:10, and above them the `UPPER` bits from bit 0 up.
+pub fn offset<const UPPER: u32>(word: u32) -> u32
+    requires { UPPER ≤ 10 }
+    ensures { result ≡ offset_with UPPER word }
 {
-    (word / 0x400 % 0x20) as u8
-}
-
-pub fn sa2_of(word: u32) -> u32
-    ensures { result ≡ values r3i2 word imm }
-{
-    word / 0x8000 % 4
-}
-
-pub fn sa3_of(word: u32) -> u32
-    ensures { result ≡ values r3i3 word imm }
-{
-    word / 0x8000 % 8
-}
-
-pub fn ui5_of(word: u32) -> u32
-    ensures { result ≡ values r2i5 word imm }
-{
-    word / 0x400 % 0x20
-}
-
-pub fn ui6_of(word: u32) -> u32
-    ensures { result ≡ values r2i6 word imm }
-{
-    word / 0x400 % 0x40
-}
-
-pub fn i12_of(word: u32) -> u32
-    ensures { result ≡ values r2i12 word imm }
-{
-    word / 0x400 % 0x1000
-}
-
-pub fn si14_of(word: u32) -> u32
-    ensures { result ≡ values r2i14 word imm }
-{
-    word / 0x400 % 0x4000
-}
-
-pub fn i16_of(word: u32) -> u32
-    ensures { result ≡ values r2i16 word imm }
-{
-    word / 0x400 % 0x1_0000
-}
-
-pub fn si20_of(word: u32) -> u32
-    ensures { result ≡ values r1i20 word imm }
-{
-    word / 0x20 % 0x10_0000
-}
-
-pub fn offs21_of(word: u32) -> u32
-    ensures { result ≡ values r1i21 word imm }
-{
-    word % 0x20 * 0x1_0000 + word / 0x400 % 0x1_0000
-}
-
-pub fn offs26_of(word: u32) -> u32
-    ensures { result ≡ values i26 word imm }
-{
-    word % 0x400 * 0x1_0000 + word / 0x400 % 0x1_0000
-}
-
-pub fn code_of(word: u32) -> u32
-    ensures { result ≡ values i15 word imm }
-{
-    word % 0x8000
-}
-
-pub fn lsbd_of(word: u32) -> u8
-    ensures { result ≡ values field_d word lsb }
-{
-    (word / 0x400 % 0x40) as u8
-}
-
-pub fn msbw_of(word: u32) -> u32
-    ensures { result ≡ values field_w word msb }
-{
-    word / 0x1_0000 % 0x20
-}
-
-pub fn msbd_of(word: u32) -> u32
-    ensures { result ≡ values field_d word msb }
-{
-    word / 0x1_0000 % 0x40
+    bits::<0, UPPER>(word) * 0x1_0000 + bits::<10, 16>(word)
 }

@@ -1,9 +1,9 @@
 -- 01's sentences on what is printed, each on a whole text. All rows stand under one theorem, whose proof is "compute both sides"
 -- (proofs/Examples.antt, `as_typed`).
-use Rattle.std.specs.Prelude.{ℕ, List, [], ◌∷◌}
+use Rattle.std.specs.Prelude.{ℕ, List, [], ◌∷◌, Some}
 use Prim.Native.String.{String}
 use Rattle.fault.specs.declared.Fault.{Fault}
-use Rattle.session.specs.declared.Note.{Note}
+use Rattle.session.specs.Session.{note}
 use Rattle.session.specs.declared.Stop.{Stop}
 use Rattle.session.specs.declared.Refusal.TheVariants.{CodeLength, BufferLength}
 use Rattle.session.specs.declared.Outcome.{Outcome}
@@ -12,7 +12,7 @@ use Rattle.session.specs.Registers.{Value, r, registers}
 
 abbrev reply : Outcome → ℕ → ℕ → List Value → Reply
 reply o steps pc xs =
-    record { outcome = o; steps = steps; session = record { regs = registers xs; pc = record { 0 = pc }; total = 99; note = Note.Present 1 2 } }
+    record { outcome = o; steps = steps; session = record { regs = registers xs; pc = record { 0 = pc }; total = 99; note = Some (note 1 2) } }
 
 abbrev raised : Fault → Outcome
 raised f = Outcome.Stopped (Stop.Raised f)

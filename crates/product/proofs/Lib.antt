@@ -1,3 +1,2 @@
-pub mod Halves
 pub mod Signs
 pub mod Lows

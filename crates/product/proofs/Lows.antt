@@ -75,3 +75,5 @@ pub word_low : {n : ℕ} (a b : ℕ) → n ≡ low 64 (a * b) → sext 32 n ≡ 
 word_low {n} a b e =
     sext_same 32 n (cut 32 (signed_product 32 a b))
     (ap (low 32) e ∙ mod-mod-pow (a * b) 32 32 ∙ sym (ap (low 32) (product_low 32 a b) ∙ mod-mod (a * b) (2 ^ 32)))
+
+pub ruleset lows = (product_low, word_low)

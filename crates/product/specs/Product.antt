@@ -1,8 +1,7 @@
 -- Products of two registers: manual 2.2.1.11 and 2.2.1.12. Each definition stands under the manual's own lines.
-use Rattle.std.specs.Prelude.{ℕ, ◌+◌, ◌*◌, ◌/◌, ◌^◌, ℤ, ◌*ℤ◌}
+use Rattle.std.specs.Prelude.{ℕ, ◌*◌, ◌/◌, ◌^◌, ℤ, ◌*ℤ◌}
 use Rattle.std.specs.Int.Signed.{shr_z}
 use Rattle.word.specs.Word.{low, cut, sext, signed}
-use Rattle.product.specs.declared.Wide.{Wide}
 use Rattle.product.specs.declared.Product.{Product}
 use Rattle.product.specs.declared.Product.TheVariants.{MulW, MulD, MulhW, MulhWu, MulhD, MulhDu, MulwDW, MulwDWu}
 
@@ -59,7 +58,3 @@ product_of MulhD = mulh_d
 product_of MulhDu = mulh_du
 product_of MulwDW = mulw_d_w
 product_of MulwDWu = mulw_d_wu
-
--- the number of 128 bits that two registers hold
-abbrev pub wide : Wide → ℕ
-wide p = p.hi * 2 ^ 64 + p.lo

@@ -1,27 +1,26 @@
 // A word as an instruction.
-use crate::given::Given;
+use crate::failure::Failure;
+use crate::quantity::Quantity;
 use crate::system::System;
-use crate::{number, out};
-use isa::Decoded;
-use names::Line;
+use std::fmt;
 
-pub fn text_of(word: u32) -> Line {
-    let d = decoder::decode(word);
-    match d {
-        Decoded::Known(i) => names::text(i),
-        Decoded::Unknown => Line::empty().add(b"no such instruction"),
+// A word that is shown with its instruction.
+#[derive(Clone, Copy)]
+pub struct Word(pub u32);
+
+impl fmt::Display for Word {
+    fn fmt<W: fmt::Write>(&self, f: &mut fmt::Formatter<W>) -> fmt::Result {
+        match decoder::decode(self.0) {
+            Some(instruction) => write!(f, "{:08x} {}", self.0, names::Text(instruction)),
+            None => write!(f, "{:08x} no such instruction", self.0),
+        }
     }
 }
 
-pub fn decode(rt: &impl System, g: Given) {
-    let words = g.words;
-    let n = number::word(rt, words[0]);
-    if !n.good {
-        return;
-    }
-    let word = (n.value % 0x1_0000_0000) as u32;
-    out::line(
-        rt,
-        Line::empty().hex(n.value, 8).add(b" ").join(text_of(word)),
-    );
+pub fn decode<'a>(rt: &impl System, given: &'a [u8]) -> Result<(), Failure<'a>> {
+    let number = Quantity::Word.read(given)?;
+    // A word of eight hex digits has no more bits.
+    let word = Word((number & 0xffff_ffff) as u32);
+    println!(rt; "{word}")?;
+    Ok(())
 }

@@ -1,10 +1,9 @@
 // All that the program can do, in one screen.
-use crate::out;
 use crate::system::System;
+use std::io;
 
-pub fn help(rt: &impl System) {
-    out::write(
-        rt,
+pub fn help(rt: &impl System) -> io::Result<()> {
+    rt.write_all(
         b"qhobuziya: runs LoongArch LA64 fare modules, by proved host calls on files
 
   qhobuziya run MODULE CARD [--from SESSION] [--to SESSION] [--budget N] [--dry]
@@ -28,5 +27,5 @@ VALUE is decimal, or 0x and hex digits. What begins with - is an option: a file
 of such a name is ./-name. Results go to standard output, messages to standard
 error. Files are replaced when all went well, and never half.
 ",
-    );
+    )
 }

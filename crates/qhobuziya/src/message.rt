@@ -1,145 +1,165 @@
-// Messages for people: each is one line on standard error that begins with the program's name.
-use crate::args;
+// What is said of a failure. A refusal is a result, on standard output. All else is a message for people: one line on standard error that
+// begins with the program's name.
+use crate::args::Unsound;
+use crate::failure::{Failure, Usage};
 use crate::system::System;
-use names::Line;
-use std::{fmt, io, str};
+use session::Refusal;
+use std::alloc::Global;
+use std::io;
+use std::io::Write;
 
-// Room for the longest path.
-const ROOM: usize = 4096;
-
-fn say(rt: &impl System, words: &[u8]) {
-    rt.tell(words);
-}
-
-// A word that was given.
-fn say_word(rt: &impl System, word: &[u8]) {
-    let mut shown = [0u8; ROOM];
-    let n = args::show(word, &mut shown);
-    say(rt, text::part(&shown, 0, n));
-}
-
-// What the library prints of an error.
-#[derive(Drop)]
-struct Reason {
-    bytes: [u8; 512],
-    len: usize,
-}
-
-impl fmt::Write for Reason {
-    fn write_str(&mut self, s: &str) -> fmt::Result {
-        self.len = names::put(&mut self.bytes, self.len, s.as_bytes());
-        Ok(())
+// A word that was given. It need not be text, and no byte of it breaks a line.
+fn write_word(out: &mut impl Write, word: &[u8]) -> io::Result<()> {
+    for (i, part) in word.split(|byte| byte.is_ascii_control()).enumerate() {
+        if i > 0 {
+            out.write_all(b"?")?;
+        }
+        out.write_all(part)?;
     }
+    Ok(())
 }
 
-fn reason_of(e: io::Error) -> Reason {
-    let mut reason = Reason {
-        bytes: [0; 512],
-        len: 0,
-    };
-    let _ = fmt::Write::write(&mut reason, e);
-    reason
+// What is said of a word, then the word.
+fn write_about(out: &mut impl Write, what: &str, word: &[u8]) -> io::Result<()> {
+    write!(out, "{what}: ")?;
+    write_word(out, word)
 }
 
-// The words of it, without the system's number behind them.
-fn words_of(reason: &[u8]) -> &[u8] {
-    let Ok(whole) = str::from_utf8(reason) else {
-        return reason;
-    };
-    match whole.rsplit_once(" (os error ") {
-        Some((words, _)) => words.as_bytes(),
+// The system's words for what went wrong, without its number behind them.
+fn words_of(reason: &str) -> &str {
+    match reason.rsplit_once(" (os error ") {
+        Some((words, _)) => words,
         None => reason,
     }
 }
 
-// A path, and the system's words for what went wrong there.
-fn say_error(rt: &impl System, path: &[u8], e: io::Error) {
-    say_word(rt, path);
-    say(rt, b": ");
-    let reason = reason_of(e);
-    let bytes = reason.bytes;
-    say(rt, words_of(text::part(&bytes, 0, reason.len)));
-    say(rt, b"\n");
+// Where there is no memory to cut the number off, it stays.
+fn write_error(out: &mut impl Write, alloc: Global, error: io::Error) -> io::Result<()> {
+    match format!(in alloc; "{error}") {
+        Ok(reason) => writeln!(out, ": {}", words_of(reason.as_str())),
+        Err(_) => writeln!(out, ": {error}"),
+    }
 }
 
-fn begin(rt: &impl System) {
-    say(rt, b"qhobuziya: ");
+// What the number of a refusal stands for, in document 01's words.
+fn sentence(refusal: Refusal) -> &'static str {
+    match refusal {
+        Refusal::CodeLength => "code length over 65,536 or not a multiple of 4",
+        Refusal::WindowLength => "window length over 65,536",
+        Refusal::WindowPlace => {
+            "window offset plus window length, as whole numbers, exceeds the arena's length"
+        }
+        Refusal::ZeroRegister => "register 0 of the session given is not zero",
+        Refusal::Budget => "budget over 1,000,000",
+        Refusal::Total => "total plus budget exceeds 2^63, as whole numbers",
+        Refusal::NoSyscall => {
+            "answer: the pc is not a multiple of 4 inside code, or the word there is no SYSCALL"
+        }
+        Refusal::FileKind => "reading: a kind byte not allowed at that place",
+        Refusal::FileCut => "reading: the file ends where a kind or part of a body is due",
+        Refusal::FileExtra => "reading: bytes after the end mark",
+        Refusal::BufferLength => "writing: the buffer is too short",
+    }
 }
 
-// The end of a message on how the program was called.
-fn end_usage(rt: &impl System) {
-    say(rt, b"; try: qhobuziya help\n");
+// A refused call: its number, then the sentence.
+fn write_refusal(out: &mut impl Write, refusal: Refusal) -> io::Result<()> {
+    writeln!(out, "refused {}", u64::from(refusal))?;
+    writeln!(out, "{}", sentence(refusal))
 }
 
-// Of a call that is wrong as a whole.
-pub fn usage(rt: &impl System, words: &[u8]) {
-    begin(rt);
-    say(rt, words);
-    end_usage(rt);
+fn write_unsound(out: &mut impl Write, unsound: Unsound) -> io::Result<()> {
+    match unsound {
+        Unsound::Empty(place) => write!(out, "argument {place} is empty"),
+        Unsound::TooLong(place) => write!(out, "argument {place} is longer than 4,091 bytes"),
+    }
 }
 
-// Of a call in which a word is wrong: what is said of it, then the word.
-pub fn usage_of(rt: &impl System, words: &[u8], word: &[u8]) {
-    begin(rt);
-    say(rt, words);
-    say(rt, b": ");
-    say_word(rt, word);
-    end_usage(rt);
-}
-
-// Of the same, where the word comes first.
-pub fn usage_by(rt: &impl System, word: &[u8], words: &[u8]) {
-    begin(rt);
-    say_word(rt, word);
-    say(rt, words);
-    end_usage(rt);
-}
-
-// A command and an option that it does not have.
-pub fn usage_option(rt: &impl System, command: &[u8], option: &[u8]) {
-    begin(rt);
-    say_word(rt, command);
-    say(rt, b" has no option ");
-    say_word(rt, option);
-    end_usage(rt);
-}
-
-// An argument that cannot even be shown.
-pub fn usage_at(rt: &impl System, number: u64, words: &[u8]) {
-    let place = Line::empty().add(b"argument ").decimal(number);
-    let bytes = place.bytes;
-    begin(rt);
-    say(rt, text::part(&bytes, 0, place.len));
-    say(rt, words);
-    end_usage(rt);
-}
-
-// Of a call of the system's that failed: what it was on, and the system's words.
-pub fn failed(rt: &impl System, what: &[u8], e: io::Error) {
-    begin(rt);
-    say_error(rt, what, e);
-}
-
-// The same of a file that is to be written, before any is replaced.
-pub fn kept(rt: &impl System, path: &[u8], e: io::Error) {
-    begin(rt);
-    say(rt, b"no file was changed: ");
-    say_error(rt, path, e);
-}
-
-pub fn not_plain(rt: &impl System, path: &[u8]) {
-    begin(rt);
-    say(rt, b"no file was changed: ");
-    say_word(rt, path);
-    say(rt, b": only a plain file can be replaced\n");
+fn write_usage(out: &mut impl Write, usage: Usage<'_>) -> io::Result<()> {
+    match usage {
+        Usage::Nothing => write!(out, "no command is given"),
+        Usage::Unsound(unsound) => write_unsound(out, unsound),
+        Usage::NoCommand(word) => write_about(out, "there is no such command", word),
+        Usage::Missing(command) => write!(out, "{command} needs {}", command.needs()),
+        Usage::TooMany(word) => write_about(out, "one argument too many", word),
+        Usage::NoOption(command, word) => {
+            write!(out, "{command} has no option ")?;
+            write_word(out, word)
+        }
+        Usage::NoValue(flag) => write!(out, "{flag} has no value"),
+        Usage::Twice(flag) => write!(out, "{flag} is given twice"),
+        Usage::TwoPlaces(word) => write_about(out, "one file is given in two places", word),
+        Usage::Numeral(quantity, error, word) => {
+            write_about(out, quantity.complaint(error), word)
+        }
+    }
 }
 
 // The second of two files could not be replaced, after the first was.
-pub fn half(rt: &impl System, first: &[u8], waiting: &[u8], second: &[u8], e: io::Error) {
-    begin(rt);
-    say_word(rt, first);
-    say(rt, b" was replaced, and what belongs with it waits in ");
-    say_word(rt, waiting);
-    say(rt, b": ");
-    say_error(rt, second, e);
+fn write_half(out: &mut impl Write, first: &[u8], second: &[u8]) -> io::Result<()> {
+    write_word(out, first)?;
+    write!(out, " was replaced, and what belongs with it waits in ")?;
+    write_word(out, second)?;
+    write_about(out, ".new", second)
+}
+
+fn write_failure(out: &mut impl Write, alloc: Global, failure: Failure<'_>) -> io::Result<()> {
+    match failure {
+        Failure::Refused(refusal) => write_refusal(out, refusal),
+        Failure::RefusedFile(path, refused) => {
+            write_refusal(out, refused.refusal)?;
+            write_word(out, path)?;
+            writeln!(out, ": offset {}", refused.offset)
+        }
+        Failure::Usage(usage) => {
+            write_usage(out, usage)?;
+            writeln!(out, "; try: qhobuziya help")
+        }
+        Failure::Unread(path, error) => {
+            write_word(out, path)?;
+            write_error(out, alloc, error)
+        }
+        Failure::Unwritten {
+            path,
+            behind,
+            error,
+        } => {
+            write_about(out, "no file was changed", path)?;
+            write!(out, "{behind}")?;
+            write_error(out, alloc, error)
+        }
+        Failure::NotPlain(path) => {
+            write_about(out, "no file was changed", path)?;
+            writeln!(out, ": only a plain file can be replaced")
+        }
+        Failure::Half {
+            first,
+            second,
+            error,
+        } => {
+            write_half(out, first, second)?;
+            write_error(out, alloc, error)
+        }
+        Failure::Output(error) => {
+            write!(out, "standard output")?;
+            write_error(out, alloc, error)
+        }
+        Failure::Memory => writeln!(out, "out of memory"),
+    }
+}
+
+// A message. There is nobody to tell that it could not be written.
+fn complain(rt: &impl System, failure: Failure<'_>) {
+    let mut errors = rt.errors();
+    let _ = errors.write_all(b"qhobuziya: ");
+    let _ = write_failure(&mut errors, rt.alloc(), failure);
+}
+
+pub fn tell(rt: &impl System, failure: Failure<'_>) {
+    if !matches!(&failure, Failure::Refused(_) | Failure::RefusedFile(..)) {
+        return complain(rt, failure);
+    }
+    if let Err(error) = write_failure(&mut io::writer(rt), rt.alloc(), failure) {
+        complain(rt, Failure::Output(error));
+    }
 }

@@ -1,205 +1,178 @@
-// Writing files, all or none. Each goes whole into NAME.new beside it; only when all of these are complete are they renamed. A file is
-// named by the place of its argument; 0 is no file.
-use crate::given::Given;
+// Writing files, all or none. Each goes whole into NAME.new beside it; only when all of these are complete are they renamed.
+use crate::call::Options;
+use crate::failure::Failure;
+use crate::system;
 use crate::system::System;
-use crate::{args, command, message, out, system};
-use refuse::Verdict;
 use session::Session;
+use std::alloc::{AllocError, Global};
 use std::fs::OpenFile;
 use std::io;
 use std::io::{ErrorKind, Write};
 
-const PATH: usize = 4096;
+// What is behind the name of a file that is not complete yet.
+const NEW: &str = ".new";
 
 // The longest file of a session.
 const SESSION: usize = 285;
 
-// Puts the path of NAME.new into the buffer and answers its length.
-fn new_path(rt: &impl System, i: usize, buffer: &mut [u8]) -> usize {
-    let mut name = [0u8; args::LONGEST];
-    let n = args::fetch(rt, i, &mut name);
-    let at = names::put(buffer, 0, text::part(&name, 0, n));
-    names::put(buffer, at, b".new")
+// A file, and the bytes that it is to have.
+#[derive(Clone, Copy)]
+pub struct Target<'a, 'b> {
+    pub path: &'a [u8],
+    pub bytes: &'b [u8],
 }
 
-// Whether a file is a plain one: a device, a pipe or a terminal has nothing to synchronize, and its name would be lost.
-fn is_plain(rt: &impl System, file: impl OpenFile + Drop, path: &[u8]) -> bool {
-    let plain = file.sync_all().is_ok();
-    if !plain {
-        message::not_plain(rt, path);
-    }
-    plain
-}
-
-// Whether a file may be replaced: one that is not there yet, or a plain one that may be written.
-fn is_replaceable(rt: &impl System, i: usize) -> bool {
-    if i == 0 {
-        return true;
-    }
-    let mut name = [0u8; args::LONGEST];
-    let n = args::fetch(rt, i, &mut name);
-    let path = text::part(&name, 0, n);
-    match system::open_update(rt, path) {
-        Ok(file) => is_plain(rt, file, path),
-        Err(e) => {
-            if e.kind() == ErrorKind::NotFound {
-                return true;
-            }
-            message::kept(rt, path, e);
-            false
-        }
-    }
+// The same, with the path of NAME.new: it is there before anything is written, since memory may run out.
+#[derive(Drop)]
+struct Replacement<'a, 'b> {
+    target: Target<'a, 'b>,
+    new_path: Vec<u8>,
 }
 
 // Writes all bytes to the disk.
-fn fill(file: &mut (impl Write + OpenFile), bytes: &[u8]) -> io::Result<()> {
+fn fill(mut file: impl Write + OpenFile + Drop, bytes: &[u8]) -> io::Result<()> {
     file.write_all(bytes)?;
     file.sync_all()
 }
 
-// Writes all bytes and closes, or says why not.
-fn is_filled(
-    rt: &impl System,
-    file: impl Write + OpenFile + Drop,
-    path: &[u8],
-    bytes: &[u8],
-) -> bool {
-    let mut open = file;
-    match fill(&mut open, bytes) {
-        Ok(()) => true,
-        Err(e) => {
-            message::kept(rt, path, e);
-            false
-        }
+// A file, of this name and what is behind it, cannot be written, and none was changed.
+fn unwritten<'a>(path: &'a [u8], behind: &'static str, error: io::Error) -> Failure<'a> {
+    Failure::Unwritten {
+        path,
+        behind,
+        error,
     }
 }
 
-// Makes NAME.new. Where that fails there is none afterwards, but one that was there before.
-fn is_made(rt: &impl System, i: usize, bytes: &[u8]) -> bool {
-    if i == 0 {
-        return true;
+impl<'a, 'b> Replacement<'a, 'b> {
+    fn new(alloc: Global, target: Target<'a, 'b>) -> Result<Replacement<'a, 'b>, AllocError> {
+        let mut new_path = Vec::from_slice(alloc, target.path)?;
+        new_path.extend_from_slice(NEW.as_bytes())?;
+        Ok(Replacement { target, new_path })
     }
-    let mut buffer = [0u8; PATH];
-    let n = new_path(rt, i, &mut buffer);
-    let path = text::part(&buffer, 0, n);
-    match system::create(rt, path) {
-        Ok(file) => {
-            if is_filled(rt, file, path, bytes) {
-                return true;
+
+    // A file may be replaced if it is not there yet, or a plain one that may be written: a device, a pipe or a terminal has nothing
+    // to synchronize, and its name would be lost.
+    fn check(&self, rt: &impl System) -> Result<(), Failure<'a>> {
+        let path = self.target.path;
+        match system::open_update(rt, path) {
+            Ok(file) => file.sync_all().map_err(|_| Failure::NotPlain(path)),
+            Err(error) if error.kind() == ErrorKind::NotFound => Ok(()),
+            Err(error) => Err(unwritten(path, "", error)),
+        }
+    }
+
+    // Makes NAME.new. Where that fails there is none afterwards, but one that was there before.
+    fn make(&self, rt: &impl System) -> Result<(), Failure<'a>> {
+        let path = self.target.path;
+        let file = system::create(rt, &self.new_path).map_err(|error| unwritten(path, NEW, error))?;
+        let filled = fill(file, self.target.bytes);
+        if filled.is_err() {
+            self.discard(rt);
+        }
+        filled.map_err(|error| unwritten(path, NEW, error))
+    }
+
+    // Removes NAME.new.
+    fn discard(&self, rt: &impl System) {
+        let _ = system::remove(rt, &self.new_path);
+    }
+
+    // NAME.new becomes NAME.
+    fn rename(&self, rt: &impl System) -> io::Result<()> {
+        system::rename(rt, &self.new_path, self.target.path)
+    }
+}
+
+fn make_all<'a>(rt: &impl System, files: &[Replacement<'a, '_>]) -> Result<(), Failure<'a>> {
+    for (made, file) in files.iter().enumerate() {
+        if let Err(failure) = file.make(rt) {
+            for before in files.iter().take(made) {
+                before.discard(rt);
             }
-            let _ = system::remove(rt, path);
-        }
-        Err(e) => message::kept(rt, path, e),
-    }
-    false
-}
-
-// Removes NAME.new.
-fn drop_new(rt: &impl System, i: usize) {
-    if i == 0 {
-        return;
-    }
-    let mut buffer = [0u8; PATH];
-    let n = new_path(rt, i, &mut buffer);
-    let _ = system::remove(rt, text::part(&buffer, 0, n));
-}
-
-// NAME.new becomes NAME, or it says why not. `before` is the file that was replaced before it.
-fn is_renamed(rt: &impl System, i: usize, before: usize) -> bool {
-    if i == 0 {
-        return true;
-    }
-    let mut buffer = [0u8; PATH];
-    let mut name = [0u8; args::LONGEST];
-    let mut first = [0u8; args::LONGEST];
-    let m = new_path(rt, i, &mut buffer);
-    let n = args::fetch(rt, i, &mut name);
-    let k = args::fetch(rt, before, &mut first);
-    let new = text::part(&buffer, 0, m);
-    let path = text::part(&name, 0, n);
-    match system::rename(rt, new, path) {
-        Ok(()) => true,
-        Err(e) => {
-            if before == 0 {
-                message::kept(rt, path, e);
-            } else {
-                message::half(rt, text::part(&first, 0, k), new, path, e);
-            }
-            false
+            return Err(failure);
         }
     }
+    Ok(())
 }
 
-fn are_made(rt: &impl System, first: usize, bytes: &[u8], second: usize, others: &[u8]) -> bool {
-    if !is_made(rt, first, bytes) {
-        return false;
+fn rename_all<'a>(rt: &impl System, files: &[Replacement<'a, '_>]) -> Result<(), Failure<'a>> {
+    let mut renamed = None;
+    for file in files {
+        let path = file.target.path;
+        if let Err(error) = file.rename(rt) {
+            return match renamed {
+                Some(first) => Err(Failure::Half {
+                    first,
+                    second: path,
+                    error,
+                }),
+                None => {
+                    for new in files {
+                        new.discard(rt);
+                    }
+                    Err(unwritten(path, "", error))
+                }
+            };
+        }
+        renamed = Some(path);
     }
-    if is_made(rt, second, others) {
-        return true;
-    }
-    drop_new(rt, first);
-    false
+    Ok(())
 }
 
-fn are_renamed(rt: &impl System, first: usize, second: usize) -> bool {
-    if !is_renamed(rt, first, 0) {
-        drop_new(rt, first);
-        drop_new(rt, second);
-        return false;
-    }
-    if is_renamed(rt, second, first) {
-        return true;
-    }
-    if first == 0 {
-        drop_new(rt, second);
-    }
-    false
-}
-
-// Whether both files now have these bytes. If not, it says what happened.
-fn files(rt: &impl System, first: usize, bytes: &[u8], second: usize, others: &[u8]) -> bool {
-    if !is_replaceable(rt, first) || !is_replaceable(rt, second) {
-        return false;
-    }
-    are_made(rt, first, bytes, second, others) && are_renamed(rt, first, second)
-}
-
-// Where the session goes: to --to, or back to where it came from.
-fn target(g: Given, from: usize) -> usize {
-    let options = g.options;
-    if options[command::TO] != 0 {
-        return options[command::TO];
-    }
-    from
-}
-
-// Writes a card, if there is one, and the session that goes with it, unless nothing is to be written. Answers whether all went well.
-pub fn all(
+// Writes a card, if there is one, and the session that goes with it, to --to or back to where it came from, unless nothing is to be
+// written.
+pub fn all<'a>(
     rt: &impl System,
-    g: Given,
-    card: usize,
-    bytes: &[u8],
-    from: usize,
+    options: Options<'a>,
+    card: Option<Target<'a, '_>>,
+    from: Option<&'a [u8]>,
     session: Session,
-) -> bool {
-    let options = g.options;
-    if options[command::DRY] != 0 {
-        return true;
+) -> Result<(), Failure<'a>> {
+    if options.is_dry {
+        return Ok(());
     }
-    let mut file = [0u8; SESSION];
-    let w = writer::write(session, &mut file);
-    let verdict = w.verdict;
-    match verdict {
-        Verdict::Accepted => files(
-            rt,
-            card,
-            bytes,
-            target(g, from),
-            text::part(&file, 0, w.len),
-        ),
-        Verdict::Refused(refusal) => {
-            out::refused(rt, refusal, session);
-            false
-        }
+    // The buffer is as long as the proved call may need.
+    let mut bytes = [0u8; SESSION];
+    let n = writer::write(session, &mut bytes)?;
+    let file = options.to.or(from).map(|path| Target {
+        path,
+        bytes: bytes.get(..n).unwrap_or(&[]),
+    });
+    let mut files = Vec::new(rt.alloc());
+    for target in [card, file].into_iter().flatten() {
+        files.push(Replacement::new(rt.alloc(), target)?)?;
+    }
+    for file in &files {
+        file.check(rt)?;
+    }
+    make_all(rt, &files)?;
+    rename_all(rt, &files)
+}
+
+#[cfg(test)]
+mod tests {
+    use super::*;
+    use crate::load;
+
+    // No clause can say that there is memory, nor what stands in a file: a card and a session are written, and read back.
+    #[test]
+    fn what_is_written_is_read(rt: HostRuntime) {
+        let card = Target {
+            path: b"tried.card",
+            bytes: b"sixteen letters ",
+        };
+        let options = Options {
+            to: Some(b"tried.session"),
+            ..Options::default()
+        };
+        let saved = all(&rt, options, Some(card), None, Session::start());
+        assert!(rt; saved.is_ok());
+        let bytes = load::bytes(&rt, b"tried.card");
+        assert!(rt; bytes.is_ok_and(|bytes| bytes.as_slice() == b"sixteen letters ".as_slice()));
+        let session = load::paused(&rt, b"tried.session");
+        assert!(rt; session.is_ok_and(|session| session == Session::start()));
+        assert!(rt; system::remove(&rt, b"tried.card").is_ok());
+        assert!(rt; system::remove(&rt, b"tried.session").is_ok());
     }
 }

@@ -1,69 +1,38 @@
 // What a paused session holds.
-use crate::given::Given;
+use crate::failure::Failure;
+use crate::load;
 use crate::system::System;
-use crate::{load, out};
-use names::Line;
-use session::{Note, Session};
+use session::Session;
+use std::io;
 
-// Eight bytes as they stand in the file, the lowest first.
-fn bytes(line: Line, number: u64) -> Line {
-    let mut l = line;
-    let mut rest = number;
-    for k in 0u64..8 {
-        l = l.hex(rest % 256, 2);
-        rest = rest / 256;
-    }
-    l
-}
-
-fn note(rt: &impl System, n: Note) -> bool {
-    match n {
-        Note::Absent => out::write(rt, b"note absent\n"),
-        Note::Present(low, high) => {
-            let first = bytes(Line::empty().add(b"note "), low);
-            out::line(rt, bytes(first, high))
+// The note's bytes stand in the file's order, the lowest of each half first.
+fn print_note(rt: &impl System, session: &Session) -> io::Result<()> {
+    match session.note {
+        None => println!(rt; "note absent"),
+        Some(note) => {
+            println!(rt;
+                "note {:016x}{:016x}",
+                note.low.swap_bytes(),
+                note.high.swap_bytes()
+            )
         }
     }
 }
 
-// One register, if it is not zero, as long as what came before could be written.
-fn register(rt: &impl System, good: bool, i: usize, value: u64) -> bool {
-    if !good || value == 0 {
-        return good;
+fn print(rt: &impl System, session: &Session) -> io::Result<()> {
+    println!(rt; "pc {:016x}", session.pc.0)?;
+    println!(rt; "total {}", session.total)?;
+    print_note(rt, session)?;
+    for (i, value) in session.regs.iter().enumerate() {
+        if *value != 0 {
+            println!(rt; "r{i} {value:016x}")?;
+        }
     }
-    out::line(
-        rt,
-        Line::empty()
-            .add(b"r")
-            .decimal(i as u64)
-            .add(b" ")
-            .hex(value, 16),
-    )
+    Ok(())
 }
 
-fn registers(rt: &impl System, regs: [u64; 32]) {
-    let mut good = true;
-    for i in 0usize..32 {
-        good = register(rt, good, i, regs[i]);
-    }
-}
-
-fn print(rt: &impl System, s: Session) {
-    let pc = s.pc;
-    let n = s.note;
-    let regs = s.regs;
-    let place = Line::empty().add(b"pc ").hex(pc.0, 16);
-    let total = Line::empty().add(b"total ").decimal(s.total);
-    if out::line(rt, place) && out::line(rt, total) && note(rt, n) {
-        registers(rt, regs);
-    }
-}
-
-pub fn show(rt: &impl System, g: Given) {
-    let words = g.words;
-    let start = load::paused(rt, words[0]);
-    if start.good {
-        let s = start.session;
-        print(rt, s);
-    }
+pub fn show<'a>(rt: &impl System, path: &'a [u8]) -> Result<(), Failure<'a>> {
+    let session = load::paused(rt, path)?;
+    print(rt, &session)?;
+    Ok(())
 }

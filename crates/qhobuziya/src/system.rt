@@ -1,26 +1,27 @@
-// What the program asks of the system: arguments, files, standard output, and standard error for bytes that need not be text.
+// What the program asks of the system: memory, arguments, files, standard output, and standard error for bytes that need not be text.
 use std::env::Env;
 use std::fs::{File, Files, OpenOptions};
-use std::io::ErrorKind;
+use std::io::{ErrorKind, Stderr, Write};
 use std::{fs, io, str};
 
-pub trait System: Env + Files + Print {
-    // Bytes on standard error. There is nobody to tell that they could not be written.
-    fn tell(&self, bytes: &[u8]);
+pub trait System: Env + Files + Print + AllocGlobal {
+    type Errors: Write + Drop;
+
+    // Standard error.
+    fn errors(&self) -> Self::Errors;
 }
 
 impl System for HostRuntime {
-    fn tell(&self, bytes: &[u8]) {
-        let _ = self.stderr().write_all(bytes);
+    type Errors = Stderr;
+
+    fn errors(&self) -> Stderr {
+        self.stderr()
     }
 }
 
 // The library opens only a path that is text in UTF-8.
 fn text_of(path: &[u8]) -> io::Result<&str> {
-    match str::from_utf8(path) {
-        Ok(text) => Ok(text),
-        Err(_) => Err(io::Error::from(ErrorKind::InvalidFilename)),
-    }
+    str::from_utf8(path).map_err(|_| io::Error::from(ErrorKind::InvalidFilename))
 }
 
 pub fn open_read<R: System>(rt: &R, path: &[u8]) -> io::Result<R::File> {

@@ -1,188 +1,143 @@
 // A run step by step, a line for each: the pc, the word, the instruction, what changed. Each step is a run with budget 1.
-use crate::given::Given;
+use crate::call::Options;
+use crate::decode::Word;
+use crate::failure::Failure;
+use crate::inputs::Inputs;
+use crate::out;
 use crate::system::System;
-use crate::{decode, load, out, run};
-use cpu::Fetched;
 use effect::Effect;
-use isa::Decoded;
-use names::Line;
-use place::{GuestAddr, Window};
-use refuse::Verdict;
+use place::GuestAddr;
 use session::{Outcome, Reply, Session, Stop};
+use std::alloc::{AllocError, Global};
+use std::fmt;
 
-// The column where what changed begins. No instruction's text reaches it.
-const CHANGES: usize = 54;
-
-// Where a store goes, and how many bytes it takes; 0 is no store.
+// Where a store goes, and how many bytes it takes.
 #[derive(Clone, Copy)]
-struct Access {
-    at: u64,
-    bytes: u64,
+struct Store {
+    at: GuestAddr,
+    len: u64,
 }
 
-fn no_access() -> Access {
-    Access { at: 0, bytes: 0 }
-}
+impl Store {
+    // The store that a session is about to make with a word.
+    fn next(session: &Session, word: u32) -> Option<Store> {
+        let instruction = decoder::decode(word)?;
+        match ask::ask(instruction, &session.regs, session.pc) {
+            Effect::Store(width, _, at) => Some(Store {
+                at,
+                len: width.bytes(),
+            }),
+            _ => None,
+        }
+    }
 
-// The word at the pc; 0, which is no instruction, where there is none.
-fn word_at(code: &[u8], pc: GuestAddr) -> u32 {
-    match cpu::fetch(code, pc) {
-        Fetched::Word(word) => word,
-        Fetched::Bad => 0,
+    // The bytes there, in their order. The card is the window, so an offset in the window is an index.
+    fn bytes(self, card: &[u8]) -> Option<&[u8]> {
+        let first = self.at.0.checked_sub(GuestAddr::WINDOW)?;
+        let end = first.checked_add(self.len)?;
+        card.get(first as usize..end as usize)
     }
 }
 
-fn store_of(e: Effect) -> Access {
-    match e {
-        Effect::Store(width, _, a) => Access {
-            at: a.0,
-            bytes: place::bytes(width),
-        },
-        _ => no_access(),
+// The bytes where a store goes; none where there is no store.
+fn stored(store: Option<Store>, card: &[u8]) -> &[u8] {
+    store.and_then(|store| store.bytes(card)).unwrap_or(&[])
+}
+
+// Bytes that are shown as hex digits.
+#[derive(Clone, Copy)]
+struct Hex<'a>(&'a [u8]);
+
+impl fmt::Display for Hex<'_> {
+    fn fmt<W: fmt::Write>(&self, f: &mut fmt::Formatter<W>) -> fmt::Result {
+        for byte in self.0 {
+            write!(f, "{byte:02x}")?;
+        }
+        Ok(())
     }
 }
 
-fn access_of(word: u32, regs: &[u64; 32], pc: GuestAddr) -> Access {
-    let d = decoder::decode(word);
-    match d {
-        Decoded::Known(i) => store_of(ask::ask(i, regs, pc)),
-        Decoded::Unknown => no_access(),
+// A line with one more change: the first from column 55 on, which no instruction's text reaches, and each other behind a blank.
+fn with_change(
+    alloc: Global,
+    line: String,
+    change: impl fmt::Display + Drop,
+) -> Result<String, AllocError> {
+    format!(in alloc; "{line:<53} {change}")
+}
+
+fn line_of(alloc: Global, word: u32, old: &Session, new: &Session) -> Result<String, AllocError> {
+    let mut line = format!(in alloc; "{:016x} {}", old.pc.0, Word(word))?;
+    for (i, (before, after)) in old.regs.iter().zip(new.regs.iter()).enumerate() {
+        if before != after {
+            line = with_change(alloc, line, format_args!("r{i}={after:016x}"))?;
+        }
     }
-}
-
-// The window's bytes where a store goes, in their order. The card is the arena's start, so an offset in the window is an index.
-fn bytes_at(card: &[u8], a: Access) -> Line {
-    let first = std::num::wrapping_sub_u64(a.at, GuestAddr::WINDOW);
-    let mut l = Line::empty();
-    for k in 0u64..a.bytes {
-        let at = std::num::wrapping_add_u64(first, k) as usize;
-        l = l.hex(text::byte(card, at) as u64, 2);
-    }
-    l
-}
-
-// The place of one more change.
-fn change(l: Line) -> Line {
-    if l.len < CHANGES {
-        return l.pad(CHANGES);
-    }
-    l.add(b" ")
-}
-
-fn with_register(l: Line, i: usize, old: u64, new: u64) -> Line {
-    if old == new {
-        return l;
-    }
-    change(l).add(b"r").decimal(i as u64).add(b"=").hex(new, 16)
-}
-
-fn with_registers(line: Line, old: [u64; 32], new: [u64; 32]) -> Line {
-    let mut l = line;
-    for i in 0usize..32 {
-        l = with_register(l, i, old[i], new[i]);
-    }
-    l
-}
-
-fn with_bytes(l: Line, at: u64, old: Line, new: Line) -> Line {
-    let a = old.bytes;
-    let b = new.bytes;
-    if text::part(&a, 0, old.len) == text::part(&b, 0, new.len) {
-        return l;
-    }
-    change(l).hex(at, 16).add(b"=").join(new)
-}
-
-fn begin(pc: GuestAddr, word: u32) -> Line {
-    let place = Line::empty().hex(pc.0, 16).add(b" ").hex(word as u64, 8);
-    place.add(b" ").join(decode::text_of(word))
-}
-
-// A step taken, and whether its line could be written.
-#[derive(Drop)]
-struct Taken {
-    good: bool,
-    reply: Reply,
+    Ok(line)
 }
 
 // One step; an instruction that raises is no step, and has no line.
-fn step(rt: &impl System, code: &[u8], card: &mut [u8], window: Window, s: Session) -> Taken {
-    let pc = s.pc;
-    let old = s.regs;
-    let word = word_at(code, pc);
-    let a = access_of(word, &old, pc);
-    let before = bytes_at(card, a);
-    let r = host::run(code, card, window, s, 1);
-    if r.steps == 0 {
-        return Taken {
-            good: true,
-            reply: r,
-        };
+fn step<'a>(rt: &impl System, inputs: &mut Inputs) -> Result<Reply, Failure<'a>> {
+    let alloc = rt.alloc();
+    let window = inputs.window();
+    let old = inputs.session;
+    // 0, where there is no word, is no instruction.
+    let word = cpu::fetch(&inputs.code, old.pc).unwrap_or(0);
+    let store = Store::next(&old, word);
+    let before = Vec::from_slice(alloc, stored(store, &inputs.card))?;
+    let reply = host::run(&inputs.code, &mut inputs.card, window, old, 1);
+    inputs.session = reply.session;
+    if reply.steps == 0 {
+        return Ok(reply);
     }
-    let session = r.session;
-    let new = session.regs;
-    let line = with_registers(begin(pc, word), old, new);
-    Taken {
-        good: out::line(rt, with_bytes(line, a.at, before, bytes_at(card, a))),
-        reply: r,
+    let mut line = line_of(alloc, word, &old, &reply.session)?;
+    let after = stored(store, &inputs.card);
+    if let Some(store) = store
+        && before.as_slice() != after
+    {
+        line = with_change(
+            alloc,
+            line,
+            format_args!("{:016x}={}", store.at.0, Hex(after)),
+        )?;
     }
+    rt.println(line)?;
+    Ok(reply)
 }
 
 // The whole run, as one run with that budget would end.
-fn steps(
-    rt: &impl System,
-    code: &[u8],
-    card: &mut [u8],
-    window: Window,
-    session: Session,
-    budget: u64,
-) -> Taken {
-    let mut s = session;
-    for done in 0u64..budget {
-        let t = step(rt, code, card, window, s);
-        let r = t.reply;
-        let outcome = r.outcome;
-        s = r.session;
-        if r.steps == 0 || !t.good {
-            return Taken {
-                good: t.good,
-                reply: Reply {
-                    outcome: outcome,
-                    steps: done,
-                    session: s,
-                },
-            };
+fn steps<'a>(rt: &impl System, mut inputs: Inputs) -> Result<Reply, Failure<'a>> {
+    for done in 0..inputs.budget {
+        let reply = step(rt, &mut inputs)?;
+        if reply.steps == 0 {
+            return Ok(Reply {
+                steps: done,
+                ..reply
+            });
         }
     }
-    Taken {
-        good: true,
-        reply: Reply {
-            outcome: Outcome::Stopped(Stop::Spent),
-            steps: budget,
-            session: s,
-        },
-    }
+    Ok(Reply {
+        outcome: Outcome::Stopped(Stop::Spent),
+        steps: inputs.budget,
+        session: inputs.session,
+    })
 }
 
-pub fn trace(rt: &impl System, g: Given) {
-    let mut code = [0u8; load::MOST];
-    let mut card = [0u8; load::MOST];
-    let i = run::load_all(rt, g, &mut code, &mut card);
-    if !i.good {
-        return;
-    }
-    let s = i.session;
-    let w = run::window(i.card);
-    match refuse::of_run(i.code, load::MOST, w, s, i.budget) {
-        Verdict::Accepted => {
-            let t = steps(rt, text::part(&code, 0, i.code), &mut card, w, s, i.budget);
-            let r = t.reply;
-            if t.good {
-                out::reply(rt, r);
-            }
-        }
-        Verdict::Refused(refusal) => {
-            out::refused(rt, refusal, s);
-        }
-    }
+pub fn trace<'a>(
+    rt: &impl System,
+    module: &'a [u8],
+    card: &'a [u8],
+    options: Options<'a>,
+) -> Result<(), Failure<'a>> {
+    let inputs = Inputs::load(rt, module, card, options)?;
+    refuse::of_run(
+        inputs.code.len(),
+        inputs.card.len(),
+        inputs.window(),
+        inputs.session,
+        inputs.budget,
+    )?;
+    let reply = steps(rt, inputs)?;
+    out::reply(rt, reply)?;
+    Ok(())
 }

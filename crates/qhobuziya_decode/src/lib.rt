@@ -10,6 +10,5 @@ use numbered::DecodedRecord;
 pub fn qhobuziya_decode(word: u32) -> DecodedRecord
     ensures { DecodesRecord word result }
 {
-    let d = decoder::decode(word);
-    numbered::of(d)
+    DecodedRecord::from(decoder::decode(word))
 }

@@ -8,7 +8,9 @@ ghost use Rattle.qhobuziya_host.specs.Exports.{RunsRecord, AnswersRecord, Writes
 
 use place::{ArenaOffset, Window};
 use records::{ReadingRecord, ReplyRecord, SessionRecord, WrittenRecord};
+use session::Session;
 
+// The C interface: the window goes as its two numbers.
 pub fn qhobuziya_run(
     code: &[u8],
     arena: &mut [u8],
@@ -21,32 +23,27 @@ pub fn qhobuziya_run(
 {
     let window = Window {
         start: ArenaOffset(offset),
-        len: len,
+        len,
     };
-    let session = records::unpacked(came);
-    let reply = host::run(code, arena, window, session, budget);
+    let reply = host::run(code, arena, window, Session::from(came), budget);
     records::replied(came, reply)
 }
 
 pub fn qhobuziya_answer(code: &[u8], came: SessionRecord, value: u64) -> ReplyRecord
     ensures { AnswersRecord code.now came value result }
 {
-    let session = records::unpacked(came);
-    let reply = service::answer(code, session, value);
+    let reply = service::answer(code, Session::from(came), value);
     records::replied(came, reply)
 }
 
 pub fn qhobuziya_write(came: SessionRecord, buffer: &mut [u8]) -> WrittenRecord
     ensures { WritesRecord came buffer.old result buffer.new }
 {
-    let session = records::unpacked(came);
-    let written = writer::write(session, buffer);
-    records::written(written)
+    WrittenRecord::from(writer::write(Session::from(came), buffer))
 }
 
 pub fn qhobuziya_read(file: &[u8]) -> ReadingRecord
     ensures { ReadsRecord file.now result }
 {
-    let reading = reader::read(file);
-    records::reading(reading)
+    ReadingRecord::from(reader::read(file))
 }

@@ -1,4 +1,5 @@
-// The exports for C of the crate qhobuziya_host: each calls the function of its name there, under the same clauses.
+// The exports for C of the crate qhobuziya_host: each calls the function of its name there, under the same clauses. The C interface needs
+// both, as a theorem names a function of a library and C a symbol of an archive.
 #![tactic(auto)]
 
 ghost use Rattle.qhobuziya_host.specs.Exports.{RunsRecord, AnswersRecord, WritesRecord, ReadsRecord};

@@ -2,7 +2,6 @@
 use Rattle.std.specs.Prelude.{ℕ, cond, eqb, ℤ, pos, negsuc}
 use Rattle.std.specs.Int.Signed.{quot_z, rem_z}
 use Rattle.word.specs.Word.{low, cut, sext, signed}
-use Rattle.quotient.specs.declared.Divided.{Divided}
 use Rattle.quotient.specs.declared.Division.{Division}
 use Rattle.quotient.specs.declared.Division.TheVariants.{DivW, ModW, DivWu, ModWu, DivD, ModD, DivDu, ModDu}
 
@@ -67,13 +66,3 @@ division_of DivD = div_d
 division_of ModD = mod_d
 division_of DivDu = div_du
 division_of ModDu = mod_du
-
--- quotient and remainder side by side, each as the register that holds it
-abbrev pub nothing : Divided
-nothing = record { quotient = 0; remainder = 0 }
-
-abbrev pub divided_d : ℤ → ℤ → Divided
-divided_d x y = record { quotient = cut 64 (quotient x y); remainder = cut 64 (remainder x y) }
-
-abbrev pub divided_w : ℤ → ℤ → Divided
-divided_w x y = record { quotient = sext 32 (cut 32 (quotient x y)); remainder = sext 32 (cut 32 (remainder x y)) }

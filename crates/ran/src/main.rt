@@ -12,124 +12,94 @@
 // All else is a pattern that `given` makes, and must not change, but that the total grows by the steps.
 #![tactic(auto)]
 
-mod differ;
 mod given;
 
+use given::{CODE, Given, LINE};
 use place::{ArenaOffset, Window};
-use report::tally;
-use report::tally::Tally;
-use session::Reply;
+use report::case::Case;
+use report::lines;
+use report::lines::{Line, Lines};
+use report::recording::Recording;
+use session::{Numbers, Reply, Session};
 use std::io;
 
-// The most code, and an arena with room around the largest window.
-const CODE: usize = 65536;
-
+// An arena with room around the largest window.
 const ARENA: usize = 65602;
 
-// Prints what is not as the line says, and says whether anything is.
-fn compare(rt: &impl Print, number: u64, line: &[u8], r: Reply, arena: &[u8]) -> io::Result<bool> {
-    let outcome = r.outcome;
-    let session = r.session;
-    let found = session::tell(outcome);
-    let stop = differ::stop(rt, number, line, found)?;
-    let steps = report::value(rt, number, b"steps", r.steps, given::steps(line))?;
-    let after = differ::session(rt, number, line, session)?;
-    let bytes = differ::arena(rt, number, line, arena)?;
-    Ok(stop || steps || after || bytes)
+fn compare_session<P: Print>(
+    case: &mut Case<'_, P>,
+    given: &Given<'_>,
+    found: Session,
+) -> io::Result<()> {
+    case.registers(&found.regs, &given.registers_after)?;
+    case.field("pc", found.pc.0, 1128, 16)?;
+    case.value("total", found.total, given.total_after)?;
+    // 1 where there is a note.
+    case.value("note", u64::from(found.note.is_some()), 0)
 }
 
-// Runs a line's program in this code, in a window of this arena, of which it lends as much as the line needs.
-fn differs_in(
-    rt: &impl Print,
-    number: u64,
-    line: &[u8],
-    code: &[u8],
-    arena: &mut [u8],
-) -> io::Result<bool> {
-    let len = given::window_length(line);
-    let end = given::START + len + given::AFTER;
-    if end > arena.len() {
-        return Ok(report::no_case(rt, number)?.differs);
-    }
-    let window = Window {
-        start: ArenaOffset(given::START),
-        len: len,
-    };
-    report::fill(arena, 0);
-    let session = given::session(line);
-    let r = host::run(
-        code,
-        &mut arena[0..end],
-        window,
-        session,
-        given::budget(line),
-    );
-    compare(rt, number, line, r, arena)
+// Prints what is not as the line says.
+fn compare<P: Print>(
+    case: &mut Case<'_, P>,
+    given: &Given<'_>,
+    r: Reply,
+    arena: &[u8],
+) -> io::Result<()> {
+    let Numbers { refused, stop } = Numbers::from(r.outcome);
+    case.value("refusal", refused, 0)?;
+    case.field("ecode", stop.ecode, 1099, 2)?;
+    case.field("subcode", stop.subcode, 1102, 2)?;
+    case.field("carried", stop.carried, 1105, 16)?;
+    case.value("steps", r.steps, given.steps)?;
+    compare_session(case, given, r.session)?;
+    // Every byte of the buffer, outside the window too.
+    case.bytes("arena byte", arena, |i| given.arena_after.byte(i))
 }
 
-// Gives a line's program as much code as the line says, with the words in their place.
-fn differs(
-    rt: &impl Print,
-    number: u64,
-    line: &[u8],
-    code: &mut [u8],
-    arena: &mut [u8],
-) -> io::Result<bool> {
-    let len = given::code_length(line);
-    if len > code.len() || !given::well_made(line) {
-        return Ok(report::no_case(rt, number)?.differs);
-    }
-    given::put_words(code, line, false);
-    let answer = differs_in(rt, number, line, &code[0..len], arena)?;
-    given::put_words(code, line, true);
-    Ok(answer)
-}
-
-// The tally after one more line, and whether there was one.
-#[derive(Drop)]
-struct Turn {
-    more: bool,
-    tally: Tally,
-}
-
-fn take_line(
-    rt: &(impl Input + Print),
-    t: Tally,
+// Runs a line's program in as much code as the line says, with the words in their place, and in a window of the arena, of which it
+// lends as much as the line needs; then compares.
+fn hold<P: Print>(
+    case: &mut Case<'_, P>,
+    given: &Given<'_>,
     code: &mut [u8; CODE],
     arena: &mut [u8; ARENA],
-) -> io::Result<Turn> {
-    let mut line = [0u8; given::LINE];
-    let n = report::read_full(&mut rt.reader(), &mut line)?;
-    if n == given::LINE {
-        let of_group = tally::for_line(rt, t, &line)?;
-        let d = differs(rt, tally::next_number(t), &line, code, arena)?;
-        return Ok(Turn {
-            more: true,
-            tally: tally::count(of_group, &line, d),
-        });
-    }
-    if n != 0 {
-        report::print_cut(rt)?;
-    }
-    Ok(Turn {
-        more: false,
-        tally: t,
-    })
+) -> io::Result<()> {
+    let window = Window {
+        start: ArenaOffset(given::START),
+        len: given.window_length,
+    };
+    let end = given::START + given.window_length + given::AFTER;
+    report::fill_with(arena, report::pattern);
+    given.put_words(code);
+    let r = host::run(
+        &code[..given.code_length],
+        &mut arena[..end],
+        window,
+        given.session,
+        given.budget,
+    );
+    given.take_words(code);
+    compare(case, given, r, arena)
 }
 
-// A proved loop has to end, and nothing says that the input does: so the turns are counted up to a number that no run reaches.
+// A proved loop has to end, and nothing says that the input does: so the lines are numbered up to a number that no run reaches.
 fn main(rt: HostRuntime) -> io::Result<()> {
     let mut code = [0u8; CODE];
     let mut arena = [0u8; ARENA];
     given::fill_code(&mut code);
-    let mut t = tally::none();
-    for _ in 0..u64::MAX {
-        let s = take_line(&rt, t, &mut code, &mut arena)?;
-        t = s.tally;
-        if !s.more {
+    let mut recording = Recording::default();
+    for (number, line) in (1..u64::MAX).zip(Lines::<_, LINE>::new(rt.reader())) {
+        let Line::Whole(line) = line? else {
+            lines::print_cut(&rt)?;
             break;
+        };
+        recording.begin(&rt, &line)?;
+        let mut case = Case::new(&rt, number, &line);
+        match Given::of(&line) {
+            Some(given) => hold(&mut case, &given, &mut code, &mut arena)?,
+            None => case.no_case()?,
         }
+        recording.count(&line, case.differs);
     }
-    tally::print_group(&rt, t)?;
-    tally::print_totals(&rt, t)
+    recording.end(&rt)
 }

@@ -1,234 +1,158 @@
-// Reading a paused session: one kind a function, each of which takes the cursor and hands a refusal on.
+// Reading a paused session: one kind a function, each of which takes the cursor on. A refusal ends the reading.
 
 #![tactic(auto)]
 
-ghost use Rattle.std.specs.Prelude.{◌≡◌, ◌∷◌, ◌+◌, ◌≤◌, length};
+ghost use Rattle.std.specs.Prelude.{◌≡◌, ◌∷◌, ◌+◌, ◌≤◌, length, IfOk};
 ghost use Rattle.file.specs.Format.{numbers_at, pc_row, registers_row, total_row, note_row, end_row};
 ghost use Rattle.file.specs.Promises.{Reads};
-ghost use Rattle.file.specs.Reading.{due_of, part_of, BodyInside, stands, row_of, extra_of, parsed_of};
+ghost use Rattle.file.specs.Reading.{refused, due_of, stands, row_of, ended_of, parsed_of};
 
-use file::{Cursor, Progress, Reading};
+use file::{Cursor, FileRefusal, Reading};
 use place::GuestAddr;
-use refuse::Verdict;
 use session::{Note, Refusal, Session};
 
-// A kind that is due, with a body of n bytes: on to the body.
-fn due(file: &[u8], at: usize, kind: u8, n: usize) -> Progress
-    ensures { result ≡ due_of kind n file.now at }
+fn refused<T>(refusal: Refusal, offset: usize) -> Result<T, FileRefusal>
+    ensures { result ≡ refused refusal offset }
 {
-    if file.len() <= at {
-        return Progress::Refused(Refusal::FileCut, file.len());
-    }
-    if file[at] != kind {
-        return Progress::Refused(Refusal::FileKind, at);
+    Err(FileRefusal { refusal, offset })
+}
+
+// A kind that is due, with a body of n bytes: on to the body.
+#[tactic(auto, unfolding(file::specs::Reading::due_of))]
+fn due(file: &[u8], at: usize, kind: u8, n: usize) -> Result<usize, FileRefusal>
+    ensures body { result ≡ due_of kind n file.now at }
+    ensures inside { IfOk result (λ body. body + n ≤ length file.now) }
+{
+    let Some(found) = file.get(at) else {
+        return refused(Refusal::FileCut, file.len());
+    };
+    if *found != kind {
+        return refused(Refusal::FileKind, at);
     }
     if file.len() - at - 1 < n {
-        return Progress::Refused(Refusal::FileCut, at);
+        return refused(Refusal::FileCut, at);
     }
-    Progress::At(at + 1)
+    Ok(at + 1)
 }
 
-// The same behind what came before: a refusal is handed on.
-fn part(file: &[u8], progress: Progress, kind: u8, n: usize) -> Progress
-    ensures { (result ≡ part_of kind n file.now progress) × BodyInside file.now n result }
-{
-    match progress {
-        Progress::At(at) => due(file, at, kind, n),
-        Progress::Refused(refusal, at) => Progress::Refused(refusal, at),
-    }
-}
-
-fn take_pc(file: &[u8], c: Cursor) -> Cursor
+// This and the next ones differ in their length and their field: one function over a closure that sets the field would be no shorter.
+fn take_pc(file: &[u8], c: Cursor) -> Result<Cursor, FileRefusal>
     ensures { result ≡ row_of pc_row file.now c }
 {
-    let progress = c.progress;
-    let s = c.session;
-    match part(file, progress, 0x01, 8) {
-        Progress::At(at) => {
-            let regs = s.regs;
-            let note = s.note;
-            Cursor {
-                progress: Progress::At(at + 8),
-                session: Session {
-                    regs: regs,
-                    pc: GuestAddr(byte_order::get8(file, at)),
-                    total: s.total,
-                    note: note,
-                },
-            }
-        }
-        Progress::Refused(refusal, at) => Cursor {
-            progress: Progress::Refused(refusal, at),
-            session: s,
+    let body = due(file, c.at, 0x01, 8)?;
+    Ok(Cursor {
+        at: body + 8,
+        session: Session {
+            pc: GuestAddr(byte_order::get::<8>(file, body)),
+            ..c.session
         },
-    }
+    })
 }
 
+// By index: tried with `iter_mut().enumerate()`, the proof does not close, since the check then knows nothing of the array.
 fn registers(file: &[u8], at: usize) -> [u64; 32]
     requires { at + 248 ≤ length file.now }
     ensures { result ≡ 0 ∷ numbers_at 31 at file.now }
 {
-    let mut regs = [0u64; 32];
-    let mut i: usize = 1;
-    let mut from = at;
-    while i < 32 {
-        regs[i] = byte_order::get8(file, from);
-        from += 8;
-        i += 1;
+    let mut regs = [0; 32];
+    for i in 0..31 {
+        regs[i + 1] = byte_order::get::<8>(file, at + 8 * i);
     }
     regs
 }
 
-fn take_registers(file: &[u8], c: Cursor) -> Cursor
+fn take_registers(file: &[u8], c: Cursor) -> Result<Cursor, FileRefusal>
     ensures { result ≡ row_of registers_row file.now c }
 {
-    let progress = c.progress;
-    let s = c.session;
-    match part(file, progress, 0x02, 248) {
-        Progress::At(at) => {
-            let pc = s.pc;
-            let note = s.note;
-            Cursor {
-                progress: Progress::At(at + 248),
-                session: Session {
-                    regs: registers(file, at),
-                    pc: pc,
-                    total: s.total,
-                    note: note,
-                },
-            }
-        }
-        Progress::Refused(refusal, at) => Cursor {
-            progress: Progress::Refused(refusal, at),
-            session: s,
+    let body = due(file, c.at, 0x02, 248)?;
+    Ok(Cursor {
+        at: body + 248,
+        session: Session {
+            regs: registers(file, body),
+            ..c.session
         },
-    }
+    })
 }
 
-fn take_total(file: &[u8], c: Cursor) -> Cursor
+fn take_total(file: &[u8], c: Cursor) -> Result<Cursor, FileRefusal>
     ensures { result ≡ row_of total_row file.now c }
 {
-    let progress = c.progress;
-    let s = c.session;
-    match part(file, progress, 0x03, 8) {
-        Progress::At(at) => {
-            let regs = s.regs;
-            let pc = s.pc;
-            let note = s.note;
-            Cursor {
-                progress: Progress::At(at + 8),
-                session: Session {
-                    regs: regs,
-                    pc: pc,
-                    total: byte_order::get8(file, at),
-                    note: note,
-                },
-            }
-        }
-        Progress::Refused(refusal, at) => Cursor {
-            progress: Progress::Refused(refusal, at),
-            session: s,
+    let body = due(file, c.at, 0x03, 8)?;
+    Ok(Cursor {
+        at: body + 8,
+        session: Session {
+            total: byte_order::get::<8>(file, body),
+            ..c.session
         },
-    }
+    })
 }
 
-fn is_kind(file: &[u8], progress: Progress, kind: u8) -> bool
-    ensures { result ≡ stands kind file.now progress }
+#[tactic(auto, unfolding(file::specs::Reading::stands))]
+fn is_kind(file: &[u8], at: usize, kind: u8) -> bool
+    ensures { result ≡ stands kind file.now at }
 {
-    match progress {
-        Progress::At(at) => at < file.len() && file[at] == kind,
-        Progress::Refused(refusal, at) => false,
-    }
+    file.get(at) == Some(&kind)
 }
 
-fn take_note(file: &[u8], c: Cursor) -> Cursor
+fn take_note(file: &[u8], c: Cursor) -> Result<Cursor, FileRefusal>
     ensures { result ≡ row_of note_row file.now c }
 {
-    let progress = c.progress;
-    if !is_kind(file, progress, 0x04) {
-        return c;
+    if !is_kind(file, c.at, 0x04) {
+        return Ok(c);
     }
-    let s = c.session;
-    match part(file, progress, 0x04, 16) {
-        Progress::At(at) => {
-            let regs = s.regs;
-            let pc = s.pc;
-            let low = byte_order::get8(file, at);
-            let high = byte_order::get8(file, at + 8);
-            Cursor {
-                progress: Progress::At(at + 16),
-                session: Session {
-                    regs: regs,
-                    pc: pc,
-                    total: s.total,
-                    note: Note::Present(low, high),
-                },
-            }
-        }
-        Progress::Refused(refusal, at) => Cursor {
-            progress: Progress::Refused(refusal, at),
-            session: s,
+    let body = due(file, c.at, 0x04, 16)?;
+    let note = Note {
+        low: byte_order::get::<8>(file, body),
+        high: byte_order::get::<8>(file, body + 8),
+    };
+    Ok(Cursor {
+        at: body + 16,
+        session: Session {
+            note: Some(note),
+            ..c.session
         },
-    }
+    })
 }
 
-fn take_end(file: &[u8], c: Cursor) -> Cursor
+fn take_end(file: &[u8], c: Cursor) -> Result<Cursor, FileRefusal>
     ensures { result ≡ row_of end_row file.now c }
 {
-    let progress = c.progress;
-    let s = c.session;
-    Cursor {
-        progress: part(file, progress, 0x05, 0),
-        session: s,
-    }
+    let end = due(file, c.at, 0x05, 0)?;
+    Ok(Cursor { at: end, ..c })
 }
 
-// Bytes after the end mark.
-#[tactic(auto, unfolding(file::specs::Reading::extra_of))]
-fn extra(file: &[u8], progress: Progress) -> Progress
-    ensures { result ≡ extra_of file.now progress }
-{
-    match progress {
-        Progress::At(at) => {
-            if at < file.len() {
-                return Progress::Refused(Refusal::FileExtra, at);
-            }
-            Progress::At(at)
-        }
-        Progress::Refused(refusal, at) => Progress::Refused(refusal, at),
-    }
-}
-
-fn parse(file: &[u8]) -> Cursor
+#[tactic(auto, unfolding(file::specs::Reading::parsed_of))]
+fn parse(file: &[u8]) -> Result<Cursor, FileRefusal>
     ensures { result ≡ parsed_of file.now }
 {
     let start = Cursor {
-        progress: Progress::At(0),
+        at: 0,
         session: Session::fresh(),
     };
-    let pc = take_pc(file, start);
-    let registers = take_registers(file, pc);
-    let total = take_total(file, registers);
-    let note = take_note(file, total);
+    let pc = take_pc(file, start)?;
+    let registers = take_registers(file, pc)?;
+    let total = take_total(file, registers)?;
+    let note = take_note(file, total)?;
     take_end(file, note)
 }
 
-pub fn read(file: &[u8]) -> Reading
+// Nothing may stand behind the end mark.
+#[tactic(auto, unfolding(file::specs::Reading::ended_of))]
+fn ended(file: &[u8], c: Cursor) -> Result<Reading, FileRefusal>
+    ensures { result ≡ ended_of file.now c }
+{
+    if c.at < file.len() {
+        return refused(Refusal::FileExtra, c.at);
+    }
+    Ok(Reading {
+        session: c.session,
+        offset: c.at,
+    })
+}
+
+pub fn read(file: &[u8]) -> Result<Reading, FileRefusal>
     ensures { Reads file.now result }
 {
-    let c = parse(file);
-    let progress = c.progress;
-    let session = c.session;
-    match extra(file, progress) {
-        Progress::At(at) => Reading {
-            verdict: Verdict::Accepted,
-            session: session,
-            offset: at,
-        },
-        Progress::Refused(refusal, at) => Reading {
-            verdict: Verdict::Refused(refusal),
-            session: Session::fresh(),
-            offset: at,
-        },
-    }
+    let end = parse(file)?;
+    ended(file, end)
 }

@@ -1,5 +1,5 @@
 -- What goes out in a record comes back, and what a refused call leaves.
-use Rattle.std.proofs.Common.{ℕ, ◌≡◌, refl}
+use Rattle.std.proofs.Common.{ℕ, ◌≡◌, refl, Option, Some, None}
 use Rattle.session.specs.declared.Note.{Note}
 use Rattle.session.specs.declared.Session.{Session}
 use Rattle.session.specs.declared.Refusal.{Refusal}
@@ -8,9 +8,9 @@ use Rattle.records.specs.declared.SessionRecord.{SessionRecord}
 use Rattle.records.specs.Records.{note_of, session_of, noted_of, low_of, high_of, record_of, reply_of}
 
 -- A session that goes out and comes back is the same.
-pub note_back : (n : Note) → note_of (noted_of n) (low_of n) (high_of n) ≡ n
-note_back Note.Absent = refl
-note_back (Note.Present low high) = refl
+pub note_back : (n : Option Note) → note_of (noted_of n) (low_of n) (high_of n) ≡ n
+note_back None = refl
+note_back (Some n) = refl
 
 pub there_and_back : (s : Session) → session_of (record_of s) ≡ s
 there_and_back s = rw (note_back s.note) refl

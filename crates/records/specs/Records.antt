@@ -1,11 +1,14 @@
 -- The records of the archive, and what they say. The note's presence is a number: 0 is absent, and every other one is present.
-use Rattle.std.specs.Prelude.{ℕ, cond, eqb}
+use Rattle.std.specs.Prelude.{ℕ, cond, eqb, Option, Some, None, Result, Ok, Err}
 use Rattle.session.specs.declared.Note.{Note}
 use Rattle.session.specs.declared.Session.{Session}
 use Rattle.session.specs.declared.Reply.{Reply}
-use Rattle.session.specs.Numbers.{numbers_of}
+use Rattle.session.specs.declared.Refusal.{Refusal}
+use Rattle.session.specs.Session.{fresh_of, note}
+use Rattle.session.specs.Numbers.{number_of, numbers_of}
 use Rattle.refuse.specs.Refusals.{refused_of}
-use Rattle.file.specs.declared.Written.{Written}
+use Rattle.file.specs.Writing.{length_written}
+use Rattle.file.specs.declared.FileRefusal.{FileRefusal}
 use Rattle.file.specs.declared.Reading.{Reading}
 use Rattle.records.specs.declared.SessionRecord.{SessionRecord}
 use Rattle.records.specs.declared.ReplyRecord.{ReplyRecord}
@@ -13,23 +16,23 @@ use Rattle.records.specs.declared.WrittenRecord.{WrittenRecord}
 use Rattle.records.specs.declared.ReadingRecord.{ReadingRecord}
 
 -- "a support note: 16 bytes, or absent and then without content"
-abbrev pub note_of : ℕ → ℕ → ℕ → Note
-note_of noted low high = cond (eqb noted 0) Note.Absent (Note.Present low high)
+abbrev pub note_of : ℕ → ℕ → ℕ → Option Note
+note_of noted low high = cond (eqb noted 0) None (Some (note low high))
 
 abbrev pub session_of : SessionRecord → Session
 session_of r = record { regs = r.regs; pc = record { 0 = r.pc }; total = r.total; note = note_of r.noted r.low r.high }
 
-abbrev pub noted_of : Note → ℕ
-noted_of Note.Absent = 0
-noted_of (Note.Present low high) = 1
+abbrev pub noted_of : Option Note → ℕ
+noted_of None = 0
+noted_of (Some n) = 1
 
-abbrev pub low_of : Note → ℕ
-low_of Note.Absent = 0
-low_of (Note.Present low high) = low
+abbrev pub low_of : Option Note → ℕ
+low_of None = 0
+low_of (Some n) = n.low
 
-abbrev pub high_of : Note → ℕ
-high_of Note.Absent = 0
-high_of (Note.Present low high) = high
+abbrev pub high_of : Option Note → ℕ
+high_of None = 0
+high_of (Some n) = n.high
 
 -- A session that goes out and comes back is the same (proofs/Back.antt, `there_and_back`).
 abbrev pub record_of : Session → SessionRecord
@@ -51,8 +54,11 @@ reply_of came r =
       steps = r.steps;
     }
 
-abbrev pub written_of : Written → WrittenRecord
-written_of w = record { refused = refused_of w.verdict; length = w.len }
+-- a refused write has the length 0
+abbrev pub written_of : Result ℕ Refusal → WrittenRecord
+written_of w = record { refused = refused_of w; length = length_written w }
 
-abbrev pub reading_of : Reading → ReadingRecord
-reading_of r = record { session = record_of r.session; refused = refused_of r.verdict; offset = r.offset }
+-- a refused read has the fresh session
+abbrev pub reading_of : Result Reading FileRefusal → ReadingRecord
+reading_of (Ok r) = record { session = record_of r.session; refused = 0; offset = r.offset }
+reading_of (Err e) = record { session = record_of fresh_of; refused = number_of e.refusal; offset = e.offset }

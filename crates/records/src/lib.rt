@@ -4,13 +4,13 @@
 #![tactic(auto)]
 
 ghost use Rattle.std.specs.Prelude.{◌≡◌};
-ghost use Rattle.records.specs.Records.{note_of, session_of, record_of, left_of, reply_of, written_of, reading_of};
+ghost use Rattle.records.specs.Records.{session_of, record_of, left_of, reply_of, written_of, reading_of};
 
-use file::{Reading, Written};
+use file::{FileRefusal, Reading};
 use place::GuestAddr;
-use session::{Note, Reply, Session};
+use session::{Note, Numbers, Refusal, Reply, Session};
 
-// A session. Where `noted` is 0 there is no note, and its two words mean nothing.
+// A session. Where `noted` is 0 there is no note, and its two words mean nothing: the C interface has no Option.
 #[repr(C)]
 #[derive(Clone, Copy)]
 pub struct SessionRecord {
@@ -22,7 +22,7 @@ pub struct SessionRecord {
     pub high: u64,
 }
 
-// What a run and an answer return, by 01's numbers.
+// What a run and an answer return, by 01's numbers: the C interface has no enum that holds a value.
 #[repr(C)]
 #[derive(Clone, Copy)]
 pub struct ReplyRecord {
@@ -34,6 +34,7 @@ pub struct ReplyRecord {
     pub steps: u64,
 }
 
+// What a write and a read return: the C interface has no Result, so a number says whether there was a refusal.
 #[repr(C)]
 #[derive(Clone, Copy)]
 pub struct WrittenRecord {
@@ -49,53 +50,43 @@ pub struct ReadingRecord {
     pub offset: usize,
 }
 
-fn note(noted: u64, low: u64, high: u64) -> Note
-    ensures { result ≡ note_of noted low high }
-{
-    if noted == 0 {
-        Note::Absent
-    } else {
-        Note::Present(low, high)
-    }
-}
-
 // The session that a record holds.
-pub fn unpacked(came: SessionRecord) -> Session
-    ensures { result ≡ session_of came }
-{
-    let regs = came.regs;
-    Session {
-        regs: regs,
-        pc: GuestAddr(came.pc),
-        total: came.total,
-        note: note(came.noted, came.low, came.high),
+impl From<SessionRecord> for Session {
+    ghost from_gives = { λ came session. session ≡ session_of came };
+
+    fn from(came: SessionRecord) -> Session {
+        let regs = came.regs;
+        let note = Note {
+            low: came.low,
+            high: came.high,
+        };
+        Session {
+            regs,
+            pc: GuestAddr(came.pc),
+            total: came.total,
+            note: (came.noted != 0).then_some(note),
+        }
     }
 }
 
 // The record of a session. An absent note has no content: its words are 0.
-pub fn packed(session: Session) -> SessionRecord
-    ensures { result ≡ record_of session }
-{
-    let regs = session.regs;
-    let pc = session.pc;
-    let note = session.note;
-    match note {
-        Note::Absent => SessionRecord {
-            regs: regs,
-            pc: pc.0,
+impl From<Session> for SessionRecord {
+    ghost from_gives = { λ session packed. packed ≡ record_of session };
+
+    fn from(session: Session) -> SessionRecord {
+        let regs = session.regs;
+        let (noted, low, high) = match session.note {
+            Some(note) => (1, note.low, note.high),
+            None => (0, 0, 0),
+        };
+        SessionRecord {
+            regs,
+            pc: session.pc.0,
             total: session.total,
-            noted: 0,
-            low: 0,
-            high: 0,
-        },
-        Note::Present(low, high) => SessionRecord {
-            regs: regs,
-            pc: pc.0,
-            total: session.total,
-            noted: 1,
-            low: low,
-            high: high,
-        },
+            noted,
+            low,
+            high,
+        }
     }
 }
 
@@ -103,18 +94,21 @@ pub fn packed(session: Session) -> SessionRecord
 fn left(came: SessionRecord, refused: u64, session: Session) -> SessionRecord
     ensures { result ≡ left_of came refused session }
 {
-    if refused == 0 { packed(session) } else { came }
+    if refused == 0 {
+        SessionRecord::from(session)
+    } else {
+        came
+    }
 }
 
+// The record of a reply to the session that came.
 pub fn replied(came: SessionRecord, reply: Reply) -> ReplyRecord
     ensures { result ≡ reply_of came reply }
 {
-    let session = reply.session;
-    let outcome = reply.outcome;
-    let numbers = session::tell(outcome);
+    let numbers = Numbers::from(reply.outcome);
     let stop = numbers.stop;
     ReplyRecord {
-        session: left(came, numbers.refused, session),
+        session: left(came, numbers.refused, reply.session),
         refused: numbers.refused,
         ecode: stop.ecode,
         subcode: stop.subcode,
@@ -123,24 +117,34 @@ pub fn replied(came: SessionRecord, reply: Reply) -> ReplyRecord
     }
 }
 
-pub fn written(w: Written) -> WrittenRecord
-    ensures { result ≡ written_of w }
-{
-    let verdict = w.verdict;
-    WrittenRecord {
-        refused: refuse::number(verdict),
-        length: w.len,
+// A refused write has the length 0.
+impl From<Result<usize, Refusal>> for WrittenRecord {
+    ghost from_gives = { λ written packed. packed ≡ written_of written };
+
+    fn from(written: Result<usize, Refusal>) -> WrittenRecord {
+        WrittenRecord {
+            refused: refuse::number(written),
+            length: written.unwrap_or(0),
+        }
     }
 }
 
-pub fn reading(r: Reading) -> ReadingRecord
-    ensures { result ≡ reading_of r }
-{
-    let session = r.session;
-    let verdict = r.verdict;
-    ReadingRecord {
-        session: packed(session),
-        refused: refuse::number(verdict),
-        offset: r.offset,
+// A refused read has the fresh session.
+impl From<Result<Reading, FileRefusal>> for ReadingRecord {
+    ghost from_gives = { λ reading packed. packed ≡ reading_of reading };
+
+    fn from(reading: Result<Reading, FileRefusal>) -> ReadingRecord {
+        match reading {
+            Ok(read) => ReadingRecord {
+                session: SessionRecord::from(read.session),
+                refused: 0,
+                offset: read.offset,
+            },
+            Err(refused) => ReadingRecord {
+                session: SessionRecord::from(Session::fresh()),
+                refused: u64::from(refused.refusal),
+                offset: refused.offset,
+            },
+        }
     }
 }

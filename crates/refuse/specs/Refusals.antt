@@ -1,5 +1,5 @@
 -- 01, "Refusal numbers": when each refusal of a run is due, on whole numbers, and which one is given. No sum here wraps.
-use Rattle.std.specs.Prelude.{ℕ, ◌+◌, ◌%◌, Bool, cond, ◌||◌, not, List, [], ◌∷◌, map, ltb, eqb, get_or}
+use Rattle.std.specs.Prelude.{ℕ, ◌+◌, ◌%◌, Bool, cond, ◌||◌, not, List, [], ◌∷◌, map, ltb, eqb, get_or, Result, Ok, Err}
 use Rattle.place.specs.declared.Window.{Window}
 use Rattle.place.specs.Place.{code_max, window_max}
 use Rattle.session.specs.declared.Session.{Session}
@@ -7,7 +7,6 @@ use Rattle.session.specs.declared.Refusal.{Refusal}
 use Rattle.session.specs.declared.Refusal.TheVariants.{CodeLength, WindowLength, WindowPlace, ZeroRegister, Budget, Total}
 use Rattle.session.specs.Session.{budget_max, total_max}
 use Rattle.session.specs.Numbers.{number_of}
-use Rattle.refuse.specs.declared.Verdict.{Verdict}
 
 -- 1: "code length over 65,536 or not a multiple of 4"
 unfoldable pub code_due : ℕ → Bool
@@ -42,14 +41,14 @@ abbrev pub test : Refusal → Bool → Test
 test r due = record { refusal = r; due = due }
 
 -- the first that is due is the one that is given
-abbrev pub verdict_of : List Test → Verdict
-verdict_of [] = Verdict.Accepted
-verdict_of (t ∷ ts) = cond t.due (Verdict.Refused t.refusal) (verdict_of ts)
+abbrev pub verdict_of : List Test → Result (Unit {0}) Refusal
+verdict_of [] = Ok tt
+verdict_of (t ∷ ts) = cond t.due (Err t.refusal) (verdict_of ts)
 
 -- a verdict by 01's numbers: the refusal's, or 0
-abbrev pub refused_of : Verdict → ℕ
-refused_of Verdict.Accepted = 0
-refused_of (Verdict.Refused r) = number_of r
+abbrev pub refused_of : {T : Type 0} → Result T Refusal → ℕ
+refused_of (Ok _) = 0
+refused_of (Err r) = number_of r
 
 -- "Lowest of 1 to 6 first for a run."
 abbrev pub run_tests : ℕ → ℕ → Window → Session → ℕ → List Test

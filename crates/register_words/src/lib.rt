@@ -9,60 +9,59 @@ ghost use Rattle.opcode.specs.Found.{three_r};
 
 use alu::Alsl;
 use fields::Bytepick;
-use isa::{Decoded, Instruction};
+use isa::Instruction;
 use opcode::ThreeR;
 
 // The operation of a 3R word, with its operands.
-fn three(found: ThreeR, word: u32) -> Decoded
+fn three(found: Option<ThreeR>, word: u32) -> Option<Instruction>
     ensures { result ≡ three_r word found }
 {
     let o = operands::of_r3(word);
-    match found {
-        ThreeR::Alu(op) => Decoded::Known(Instruction::Alu(op, o)),
-        ThreeR::Product(op) => Decoded::Known(Instruction::Product(op, o)),
-        ThreeR::Division(op) => Decoded::Known(Instruction::Division(op, o)),
-        ThreeR::Shift(op) => Decoded::Known(Instruction::Shift(op, o)),
-        ThreeR::Missing => Decoded::Unknown,
-    }
+    Some(match found? {
+        ThreeR::Alu(op) => Instruction::Alu(op, o),
+        ThreeR::Product(op) => Instruction::Product(op, o),
+        ThreeR::Division(op) => Instruction::Division(op, o),
+        ThreeR::Shift(op) => Instruction::Shift(op, o),
+    })
 }
 
 // ALSL.W and ALSL.WU.
-fn alsl_words(word: u32) -> Decoded
+fn alsl_words(word: u32) -> Option<Instruction>
     requires { word / 2 ^ 18 ≡ 1 }
     ensures { result ≡ decode_of word }
 {
-    let o = operands::of_r3i2(word);
+    let o = operands::of_r3i::<2>(word);
     match word / 0x2_0000 {
-        0x2 => Decoded::Known(Instruction::Alsl(Alsl::AlslW, o)),
-        0x3 => Decoded::Known(Instruction::Alsl(Alsl::AlslWu, o)),
-        _ => Decoded::Unknown,
+        0x2 => Some(Instruction::Alsl(Alsl::AlslW, o)),
+        0x3 => Some(Instruction::Alsl(Alsl::AlslWu, o)),
+        _ => None,
     }
 }
 
 // ALSL.D.
-fn alsl_doubles(word: u32) -> Decoded
+fn alsl_doubles(word: u32) -> Option<Instruction>
     requires { word / 2 ^ 18 ≡ 11 }
     ensures { result ≡ decode_of word }
 {
     match word / 0x2_0000 {
-        0x16 => Decoded::Known(Instruction::Alsl(Alsl::AlslD, operands::of_r3i2(word))),
-        _ => Decoded::Unknown,
+        0x16 => Some(Instruction::Alsl(Alsl::AlslD, operands::of_r3i::<2>(word))),
+        _ => None,
     }
 }
 
 // BYTEPICK.W.
-fn bytepick_words(word: u32) -> Decoded
+fn bytepick_words(word: u32) -> Option<Instruction>
     requires { word / 2 ^ 18 ≡ 2 }
     ensures { result ≡ decode_of word }
 {
     match word / 0x2_0000 {
-        0x4 => Decoded::Known(Instruction::Bytepick(Bytepick::BytepickW, operands::of_r3i2(word))),
-        _ => Decoded::Unknown,
+        0x4 => Some(Instruction::Bytepick(Bytepick::BytepickW, operands::of_r3i::<2>(word))),
+        _ => None,
     }
 }
 
 // Words that begin with ten zeros: no immediate but two or three bits.
-pub fn registers(word: u32) -> Decoded
+pub fn registers(word: u32) -> Option<Instruction>
     requires { word / 2 ^ 22 ≡ 0 }
     ensures { result ≡ decode_of word }
 {
@@ -75,9 +74,9 @@ pub fn registers(word: u32) -> Decoded
         0x1 => alsl_words(word),
         0xb => alsl_doubles(word),
         0x2 => bytepick_words(word),
-        0x3 => Decoded::Known(Instruction::Bytepick(Bytepick::BytepickD, operands::of_r3i3(word))),
+        0x3 => Some(Instruction::Bytepick(Bytepick::BytepickD, operands::of_r3i::<3>(word))),
         0x0 => short_words::short_ones(word),
         0xa => short_words::traps(word),
-        _ => Decoded::Unknown,
+        _ => None,
     }
 }

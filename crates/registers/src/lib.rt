@@ -6,6 +6,7 @@
 ghost use Rattle.std.specs.Prelude.{◌≡◌};
 ghost use Rattle.registers.specs.Registers.{reg, written};
 
+#[tactic(auto, unfolding(crate::specs::Registers::reg))]
 pub fn get(regs: &[u64; 32], i: u8) -> u64
     ensures { result ≡ reg regs.now i }
 {
@@ -13,6 +14,7 @@ pub fn get(regs: &[u64; 32], i: u8) -> u64
 }
 
 // A write to register 0 is dropped.
+#[tactic(auto, unfolding(crate::specs::Registers::written))]
 pub fn put(regs: &mut [u64; 32], i: u8, v: u64)
     ensures { regs.new ≡ written regs.old i v }
 {

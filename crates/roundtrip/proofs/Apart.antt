@@ -1,4 +1,5 @@
 -- No two rows have a word in common: a computed test over the table, and what it means. Assumes nothing.
+use Rattle.std.specs.Prelude.{Some}
 use mathlib.Core.Path.{◌≡◌, refl, sym, ap, ◌∙◌}
 use Prim.Native.Nat.{ℕ, ◌+◌, ◌-◌, ◌/◌, ◌%◌, ◌^◌, ◌<◌, ◌≤◌}
 use native.Mathlib.Omega.{arith}
@@ -10,7 +11,6 @@ use Rattle.isa.specs.Format.{Place, values}
 use Rattle.opcode.specs.Table.{Row}
 use Rattle.opcode.specs.Families.{Entry, table}
 use Rattle.opcode.specs.Decode.{has, decode_in}
-use Rattle.isa.specs.declared.Decoded.TheVariants.{Known}
 use Rattle.isa.proofs.Places.{Agree, in_value, in_word, joins, and_l, and_r}
 use Rattle.opcode.proofs.Narrow.{code_places, every, agrees, tested, or_else}
 
@@ -81,10 +81,10 @@ every_of p {e} (here {es = es}) t = and_l (p e.row) (every p es) t
 every_of p (there {f = f} {es = es} h) t = every_of p h (and_r (p f.row) (every p es) t)
 
 -- the row that has a word decodes it, wherever it stands
-pub found : (w : ℕ) → w < 2 ^ 32 → {e : Entry} {es : List Entry} → Has e es → T (every joined es) → T (apart es) → has e.row w ≡ true → decode_in es w ≡ Known (e.make (values e.row.format w))
-found w l {e} (here {es = es}) j t q = ap (λ (b : Bool). cond b (Known (e.make (values e.row.format w))) (decode_in es w)) q
+pub found : (w : ℕ) → w < 2 ^ 32 → {e : Entry} {es : List Entry} → Has e es → T (every joined es) → T (apart es) → has e.row w ≡ true → decode_in es w ≡ Some (e.make (values e.row.format w))
+found w l {e} (here {es = es}) j t q = ap (λ (b : Bool). cond b (Some (e.make (values e.row.format w))) (decode_in es w)) q
 found w l {e} (there {f = f} {es = es} h) j t q =
-    ap (λ (b : Bool). cond b (Known (f.make (values f.row.format w))) (decode_in es w)) (other (has f.row w) refl)
+    ap (λ (b : Bool). cond b (Some (f.make (values f.row.format w))) (decode_in es w)) (other (has f.row w) refl)
     ∙ found w l h (and_r (joined f.row) (every joined es) j) (and_r (every (apart2 f.row) es) (apart es) t) q
   where
     other : (b : Bool) → has f.row w ≡ b → b ≡ false

@@ -1,7 +1,8 @@
 -- Words and instructions, there and back: every word that exists is the word of its instruction, and every instruction with operands in
 -- range is what its word decodes to. Generic laws over rows first; then a line for each family. Assumes nothing.
+use Rattle.std.specs.Prelude.{Some}
 use mathlib.Core.Path.{◌≡◌, refl, sym, ap, ◌∙◌, subst}
-use Prim.Native.Nat.{ℕ, zero, suc, ◌+◌, ◌^◌, ◌<◌}
+use Prim.Native.Nat.{ℕ, zero, suc, ◌^◌, ◌<◌}
 use native.Mathlib.Nat.{mod-eq_of_lt}
 use native.Mathlib.Omega.{arith}
 use mathlib.Core.Bool.{Bool, true, false, cond, ◌&&◌}
@@ -17,7 +18,6 @@ use Rattle.opcode.specs.Decode.{has, decode_in, decode_of}
 use Rattle.roundtrip.specs.Encode.{of_operands, of_field_operands, of_hint_operands, operands_of, row_of, with_code, parts_of, encode_of, InRange}
 use Rattle.isa.specs.declared.Instruction.{Instruction}
 use Rattle.isa.specs.declared.Instruction.TheVariants as instruction
-use Rattle.isa.specs.declared.Decoded.TheVariants.{Known}
 use Rattle.isa.proofs.Places.{joins, agree, read_back, gather_lt, and_l, and_r}
 use Rattle.opcode.proofs.Narrow.{every, both_l}
 use Rattle.roundtrip.proofs.Words.{word_lt, agreed, laid}
@@ -310,33 +310,33 @@ module _ (w : ℕ) (i : Instruction) where
         same_parts = ap parts_of (sym z) ∙ (λ j p. k.parts op t w e p j) ∙ ap (λ (r : Row). values r.format w) (sym q);
       }
 
-  in_entries : (F : Family) → Kept F → (ops : List F.Op) (es : List Entry) → T (every sound (entries F ops ++ es)) → (T (every sound es) → decode_in es w ≡ Known i → Came w i) → decode_in (entries F ops ++ es) w ≡ Known i → Came w i
+  in_entries : (F : Family) → Kept F → (ops : List F.Op) (es : List Entry) → T (every sound (entries F ops ++ es)) → (T (every sound es) → decode_in es w ≡ Some i → Came w i) → decode_in (entries F ops ++ es) w ≡ Some i → Came w i
   in_entries F k [] es t next e = next t e
   in_entries F k (op ∷ ops) es t next e =
       by (has (F.row op) w) refl e (in_entries F k ops es (and_r (sound (F.row op)) _ t) next)
     where
-      by : (b : Bool) → has (F.row op) w ≡ b → cond b (Known (F.make op (values (F.row op).format w))) (decode_in (entries F ops ++ es) w) ≡ Known i
-          → (decode_in (entries F ops ++ es) w ≡ Known i → Came w i) → Came w i
+      by : (b : Bool) → has (F.row op) w ≡ b → cond b (Some (F.make op (values (F.row op).format w))) (decode_in (entries F ops ++ es) w) ≡ Some i
+          → (decode_in (entries F ops ++ es) w ≡ Some i → Came w i) → Came w i
       by true h d later = let z : F.make op (values (F.row op).format w) ≡ i = cc in made F k op (and_l (sound (F.row op)) _ t) h z
       by false h d later = later d
 
-  in_families : (Fs : List Family) → Kepts Fs → T (every sound (all_entries Fs)) → decode_in (all_entries Fs) w ≡ Known i → Came w i
+  in_families : (Fs : List Family) → Kepts Fs → T (every sound (all_entries Fs)) → decode_in (all_entries Fs) w ≡ Some i → Came w i
   in_families [] ks t e = let z : ◌≡◌ {A = ℕ} 0 1 = cc in absurd (no_one z)
     where
       no_one : ◌≡◌ {A = ℕ} 0 1 → ⊥
       no_one z = omega arith
   in_families (F ∷ Fs) ks t e = in_entries F ks.0 F.ops (all_entries Fs) t (in_families Fs ks.1) e
 
-  came : decode_of w ≡ Known i → Came w i
+  came : decode_of w ≡ Some i → Came w i
   unfolding table decode_of
   came e = in_families families all_kept rows_sound e
 
 -- every word that exists is the word of its instruction
-pub encoded : (w : ℕ) (i : Instruction) → w < 2 ^ 32 → decode_of w ≡ Known i → encode_of i ≡ w
+pub encoded : (w : ℕ) (i : Instruction) → w < 2 ^ 32 → decode_of w ≡ Some i → encode_of i ≡ w
 encoded w i h e = let c = came w i e in ap (word_of (row_of i).format.pieces) c.same_parts ∙ written (row_of i) c.well w h
 
 -- so two words that exist have different instructions
-pub lossless : (v w : ℕ) (i : Instruction) → v < 2 ^ 32 → w < 2 ^ 32 → decode_of v ≡ Known i → decode_of w ≡ Known i → v ≡ w
+pub lossless : (v w : ℕ) (i : Instruction) → v < 2 ^ 32 → w < 2 ^ 32 → decode_of v ≡ Some i → decode_of w ≡ Some i → v ≡ w
 lossless v w i g h d e = sym (encoded v i g d) ∙ encoded w i h e
 
 no_opcode : (i : Instruction) → operands_of i opcode ≡ 0
@@ -373,7 +373,7 @@ both_r false b e = absurd (false_true e)
     false_true h = subst T (sym h) tt
 
 -- what is decoded has its operands in range
-pub in_range : (w : ℕ) (i : Instruction) → decode_of w ≡ Known i → InRange i
+pub in_range : (w : ℕ) (i : Instruction) → decode_of w ≡ Some i → InRange i
 in_range w i e = (low_enough, ap (row_of i).format.allows c.same_parts ∙ both_r (eqb (values (row_of i).format w opcode) (row_of i).code) _ c.from)
   where
     c : Came w i
@@ -425,22 +425,22 @@ has_nth (suc n) (F ∷ Fs) t op h = has_right (entries F F.ops) (all_entries Fs)
 
 -- for an entry of the table
 decoded_by : (e : Entry) → Has e table → (x : Part → ℕ) → ((q : Part) → x q < 2 ^ width e.row.format q) → e.row.format.allows (with_code e.row.code x) ≡ true
-    → decode_of (word_of e.row.format.pieces (with_code e.row.code x)) ≡ Known (e.make (with_code e.row.code x))
+    → decode_of (word_of e.row.format.pieces (with_code e.row.code x)) ≡ Some (e.make (with_code e.row.code x))
 unfolding decode_of
 decoded_by e h x v a =
     let t = every_of sound h rows_sound in
     let y = with_code e.row.code x in
     found (word_of e.row.format.pieces y) (word_fits e.row t y) h rows_joined rows_apart (has_word e.row t x v a)
-    ∙ ap (λ (z : Part → ℕ). Known (e.make z)) (read e.row t y (coded_lt e.row t x v))
+    ∙ ap (λ (z : Part → ℕ). Some (e.make z)) (read e.row t y (coded_lt e.row t x v))
 
 decoded_at : (n : ℕ) → T (within n families) → Kept (nth n families) → (op : (nth n families).Op) (x : Part → ℕ) → ((q : Part) → x q < 2 ^ width ((nth n families).row op).format q)
     → ((nth n families).row op).format.allows (with_code ((nth n families).row op).code x) ≡ true
-    → decode_of (word_of ((nth n families).row op).format.pieces (with_code ((nth n families).row op).code x)) ≡ Known ((nth n families).make op (with_code ((nth n families).row op).code x))
+    → decode_of (word_of ((nth n families).row op).format.pieces (with_code ((nth n families).row op).code x)) ≡ Some ((nth n families).make op (with_code ((nth n families).row op).code x))
 unfolding table
 decoded_at n t k op x v a = decoded_by (entry (nth n families) op) (has_nth n families t op (k.member op)) x v a
 
 -- every instruction with operands in range is what its word decodes to
-pub decoded : (i : Instruction) → InRange i → decode_of (encode_of i) ≡ Known i
+pub decoded : (i : Instruction) → InRange i → decode_of (encode_of i) ≡ Some i
 decoded (instruction.Alu op o) v = decoded_at 0 tt alu_kept op (of_operands o) v.0 v.1
 decoded (instruction.Product op o) v = decoded_at 1 tt product_kept op (of_operands o) v.0 v.1
 decoded (instruction.Division op o) v = decoded_at 2 tt division_kept op (of_operands o) v.0 v.1

@@ -1,5 +1,5 @@
 -- 01's twenty anchor words are rows of the table, and every row has a word: two tests that the definitions compute.
-use Rattle.std.specs.Prelude.{◌≡◌, refl, Bool, true, false, ◌&&◌, List, [], ◌∷◌, ℕ}
+use Rattle.std.specs.Prelude.{◌≡◌, refl, Bool, true, false, ◌&&◌, List, [], ◌∷◌, ℕ, Option, Some, None}
 use Rattle.isa.specs.Format.{word_of}
 use Rattle.opcode.specs.Families.{Entry, table}
 use Rattle.opcode.specs.Decode.{decode_of}
@@ -8,8 +8,6 @@ use Rattle.isa.specs.declared.Operands.{Operands}
 use Rattle.isa.specs.declared.FieldOperands.{FieldOperands}
 use Rattle.isa.specs.declared.Instruction.{Instruction}
 use Rattle.isa.specs.declared.Instruction.TheVariants as instruction
-use Rattle.isa.specs.declared.Decoded.{Decoded}
-use Rattle.isa.specs.declared.Decoded.TheVariants.{Known, Unknown}
 use Rattle.digits.specs.declared.Unary.TheVariants.{CloW}
 use Rattle.isa.specs.declared.Assert.TheVariants.{AsrtleD}
 use Rattle.alu.specs.declared.Alsl.TheVariants.{AlslW}
@@ -40,7 +38,7 @@ pub data Anchor : Type 0 where
 -- each word decodes to the instruction beside it
 abbrev pub Hold : List Anchor → Type 0
 Hold [] = Unit
-Hold (at w i ∷ rest) = (decode_of w ≡ Known i) × Hold rest
+Hold (at w i ∷ rest) = (decode_of w ≡ Some i) × Hold rest
 
 -- 01, "Which instructions", in its order
 abbrev pub anchors : List Anchor
@@ -71,9 +69,9 @@ pub hold : Hold anchors
 unfolding table decode_of
 hold = (refl, (refl, (refl, (refl, (refl, (refl, (refl, (refl, (refl, (refl, (refl, (refl, (refl, (refl, (refl, (refl, (refl, (refl, (refl, (refl, tt))))))))))))))))))))
 
-abbrev is_known : Decoded → Bool
-is_known (Known i) = true
-is_known Unknown = false
+abbrev is_known : Option Instruction → Bool
+is_known (Some i) = true
+is_known None = false
 
 -- the word of each row with operands that are all 0 exists
 abbrev pub all_exist : List Entry → Bool

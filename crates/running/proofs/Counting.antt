@@ -2,8 +2,8 @@
 use mathlib.Core.Path.{◌≡◌, refl, sym, ap, ◌∙◌}
 use Prim.Native.Nat.{ℕ, zero, suc, ◌+◌, ◌<◌}
 use native.Mathlib.Omega.{arith}
+use Rattle.std.specs.Prelude.{Ok}
 use Rattle.fault.specs.declared.Fault.{Fault}
-use Rattle.apply.specs.declared.End.{End}
 use Rattle.apply.specs.Machine.{Ground, State, Ended, done, raised}
 use Rattle.cpu.specs.Step.{step_of}
 use Rattle.session.specs.declared.Stop.{Stop}
@@ -27,13 +27,13 @@ module _ (g : Ground) where
     unfolding after
     later j = ap (λ (e : Ended). after g j e.state) d
 
-    first : (step_of g s).end ≡ End.Done
+    first : (step_of g s).end ≡ Ok tt
     first = ap (λ (e : Ended). e.end) d
 
     one_more : (k : ℕ) → after g (1 + k) s ≡ after g k u
     one_more k = let e : 1 + k ≡ suc k = omega arith in rw e (later k)
 
-    all_done : (k : ℕ) → ((j : ℕ) → j < k → (step_of g (after g j u)).end ≡ End.Done) → (j : ℕ) → j < 1 + k → (step_of g (after g j s)).end ≡ End.Done
+    all_done : (k : ℕ) → ((j : ℕ) → j < k → (step_of g (after g j u)).end ≡ Ok tt) → (j : ℕ) → j < 1 + k → (step_of g (after g j s)).end ≡ Ok tt
     unfolding after
     all_done k rest zero h = first
     all_done k rest (suc j) h = rw (later j) (rest j (omega arith))

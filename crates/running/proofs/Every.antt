@@ -3,8 +3,8 @@
 use mathlib.Core.Path.{◌≡◌, refl}
 use Prim.Native.Nat.{ℕ, zero, suc, ◌≤◌}
 use native.Mathlib.Omega.{arith}
+use Rattle.std.specs.Prelude.{Result, Ok, Err}
 use Rattle.fault.specs.declared.Fault.{Fault}
-use Rattle.apply.specs.declared.End.{End}
 use Rattle.apply.specs.Machine.{Ground, State, Ended, done, raised}
 use Rattle.cpu.specs.Step.{step_of}
 use Rattle.cpu.proofs.Raising.{raise_unchanged}
@@ -13,7 +13,7 @@ use Rattle.running.specs.Run.{Went, stopped, counted, run_of}
 use Rattle.running.proofs.Turning.{run_none, run_done, run_raised}
 
 -- a step that completes, by its parts
-finished : (e : Ended) → e.end ≡ End.Done → e ≡ done e.state
+finished : (e : Ended) → e.end ≡ Ok tt → e ≡ done e.state
 finished e p = rw (← p) refl
 
 module _ (g : Ground) (P : ℕ → State → Went → Type 0)
@@ -27,9 +27,9 @@ module _ (g : Ground) (P : ℕ → State → Went → Type 0)
       e : Ended
       e = step_of g s
 
-      go : (x : End) → e.end ≡ x → P n e.state (run_of g n e.state) → P (suc n) s (run_of g (suc n) s)
-      go End.Done p rest = let d = finished e p in rw (run_done g n s e.state d) (completes n s e.state _ d rest)
-      go (End.Raised f) p rest = let d = raise_unchanged g s f p in rw (run_raised g n s f s d) (raises n s f d)
+      go : (x : Result (Unit {0}) Fault) → e.end ≡ x → P n e.state (run_of g n e.state) → P (suc n) s (run_of g (suc n) s)
+      go (Ok tt) p rest = let d = finished e p in rw (run_done g n s e.state d) (completes n s e.state _ d rest)
+      go (Err f) p rest = let d = raise_unchanged g s f p in rw (run_raised g n s f s d) (raises n s f d)
 
 -- no more steps than the budget
 pub steps_within : (g : Ground) (n : ℕ) (s : State) → (run_of g n s).steps ≤ n

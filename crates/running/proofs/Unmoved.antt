@@ -3,8 +3,9 @@ use mathlib.Core.Path.{◌≡◌, refl}
 use Prim.Native.Nat.{ℕ}
 use native.Mathlib.Nat.{add-zero}
 use native.Mathlib.Omega.{arith}
+use Rattle.std.specs.Prelude.{Result, Ok, Err}
+use Rattle.session.specs.declared.Refusal.{Refusal}
 use Rattle.session.specs.declared.Outcome.{Outcome}
-use Rattle.refuse.specs.declared.Verdict.{Verdict}
 use Rattle.refuse.specs.Refusals.{verdict_of}
 use Rattle.running.specs.Run.{ran_of, run_of}
 use Rattle.running.specs.Call.{judged, tests_of, host_run_of}
@@ -14,10 +15,10 @@ pub refused_changes_nothing : RefusedChangesNothing
 unfolding host_run_of ran_of
 refused_changes_nothing g s budget arena why = go (verdict_of (tests_of g s budget arena))
   where
-    go : (v : Verdict) → (judged v s arena (ran_of g s budget arena)).0.outcome ≡ Outcome.Refused why
+    go : (v : Result (Unit {0}) Refusal) → (judged v s arena (ran_of g s budget arena)).0.outcome ≡ Outcome.Refused why
         → Unmoved s arena (judged v s arena (ran_of g s budget arena))
-    go Verdict.Accepted e = let z : ◌≡◌ {A = ℕ} 0 1 = cc in absurd (omega arith)
-    go (Verdict.Refused r) e = record { steps = refl; session = refl; bytes = refl }
+    go (Ok tt) e = let z : ◌≡◌ {A = ℕ} 0 1 = cc in absurd (omega arith)
+    go (Err r) e = record { steps = refl; session = refl; bytes = refl }
 
 pub no_budget_no_step : NoBudgetNoStep
 unfolding ran_of run_of

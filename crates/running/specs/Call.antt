@@ -1,18 +1,18 @@
 -- The host's call: the refusals first, then the run. And what `host::run` promises, for all inputs.
-use Rattle.std.specs.Prelude.{ℕ, ◌+◌, ◌≤◌, ◌≡◌, List, length}
+use Rattle.std.specs.Prelude.{ℕ, ◌+◌, ◌≤◌, ◌≡◌, List, length, Result, Ok, Err}
 use Rattle.apply.specs.Machine.{Ground}
 use Rattle.session.specs.declared.Session.{Session}
+use Rattle.session.specs.declared.Refusal.{Refusal}
 use Rattle.session.specs.declared.Outcome.{Outcome}
 use Rattle.session.specs.declared.Reply.{Reply}
 use Rattle.session.specs.Numbers.{numbers_of}
-use Rattle.refuse.specs.declared.Verdict.{Verdict}
 use Rattle.refuse.specs.Refusals.{Test, verdict_of, run_tests}
 use Rattle.running.specs.Run.{ran_of}
 
 -- "Refused runs .. return the session as it came, with step count 0, the arena unchanged"
-abbrev pub judged : Verdict → Session → List ℕ → Reply × List ℕ → Reply × List ℕ
-judged Verdict.Accepted s arena ran = ran
-judged (Verdict.Refused r) s arena ran = (record { outcome = Outcome.Refused r; steps = 0; session = s }, arena)
+abbrev pub judged : Result (Unit {0}) Refusal → Session → List ℕ → Reply × List ℕ → Reply × List ℕ
+judged (Ok tt) s arena ran = ran
+judged (Err r) s arena ran = (record { outcome = Outcome.Refused r; steps = 0; session = s }, arena)
 
 -- the tests of a call
 abbrev pub tests_of : Ground → Session → ℕ → List ℕ → List Test

@@ -1,6 +1,5 @@
 -- A run: steps until one raises or the budget is spent, over the whole arena (01, "Stops").
-use Rattle.std.specs.Prelude.{ℕ, zero, suc, ◌+◌, ◌≡◌, List}
-use Rattle.apply.specs.declared.End.{End}
+use Rattle.std.specs.Prelude.{ℕ, zero, suc, ◌+◌, ◌≡◌, List, Ok, Err}
 use Rattle.apply.specs.Machine.{Ground, State, Ended, state}
 use Rattle.cpu.specs.Step.{step_of}
 use Rattle.session.specs.declared.Session.{Session}
@@ -27,8 +26,8 @@ run_of g zero s = stopped Stop.Spent s
 run_of g (suc n) s =
     let e : Ended = step_of g s in
     elim e.end [
-      | End.Done ↦ counted 1 (run_of g n e.state)
-      | End.Raised f ↦ stopped (Stop.Raised f) e.state
+      | Ok _ ↦ counted 1 (run_of g n e.state)
+      | Err f ↦ stopped (Stop.Raised f) e.state
     ]
 
 -- the state in which a session starts a run

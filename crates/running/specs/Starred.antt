@@ -3,7 +3,7 @@
 -- stop, pretends steps or makes up the count is refused here.
 -- The window starts at the odd offset 7 of an arena of 40 bytes, with other bytes on both sides: an access that is compared with the
 -- arena's end fails cases 8 and 10.
-use Rattle.std.specs.Prelude.{ℕ, ◌+◌, ◌≡◌, refl, List, [], ◌∷◌, map}
+use Rattle.std.specs.Prelude.{ℕ, ◌+◌, ◌≡◌, refl, List, [], ◌∷◌, map, Some}
 use Rattle.place.specs.Place.{locate_of, fetch_place_of}
 use Rattle.byte_order.specs.Bytes.{get_le, bytes_le}
 use Rattle.alu.specs.Alu.{alu_of}
@@ -22,9 +22,9 @@ use Rattle.apply.specs.Apply.{access_of, apply_of}
 use Rattle.cpu.specs.Step.{fetch_of, step_of}
 use Rattle.fault.specs.Fault.{told_of}
 use Rattle.session.specs.declared.Session.{Session}
-use Rattle.session.specs.declared.Note.{Note}
 use Rattle.session.specs.declared.Reply.{Reply}
 use Rattle.session.specs.declared.Numbers.{Numbers}
+use Rattle.session.specs.Session.{note}
 use Rattle.session.specs.Numbers.{numbers_of}
 use Rattle.session.specs.Registers.{Value, r, registers}
 use Rattle.refuse.specs.Refusals.{code_due, window_due, place_due, zero_due, budget_due, total_due}
@@ -39,7 +39,7 @@ arena =
 
 -- a session that has done 1,000 steps, with a note
 abbrev session : List Value → ℕ → ℕ → Session
-session xs pc steps = record { regs = registers xs; pc = record { 0 = pc }; total = 1000 + steps; note = Note.Present 0x123456789abcdef 0x1122334455667788 }
+session xs pc steps = record { regs = registers xs; pc = record { 0 = pc }; total = 1000 + steps; note = Some (note 0x123456789abcdef 0x1122334455667788) }
 
 -- what the host sees: the outcome by 01's numbers, the count, the session, the arena's bytes
 pub record Seen : Type 0 where

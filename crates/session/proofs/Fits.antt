@@ -10,8 +10,10 @@ use denote.Shadow.{shadow}
 use denote.Array.{each}
 use denote.Struct.Field.{u64-field}
 use denote.Struct.Declared.{row}
+use Rattle.std.specs.Prelude.{Option, Some, None}
 use Rattle.session.specs.contracts.Session.{the_type}
-use Rattle.session.specs.contracts.Note.{the_field}
+use Rattle.std.specs.contracts.option.Option.{the_field}
+use Rattle.session.specs.contracts.Note.{the_row}
 use Rattle.session.specs.declared.Session.{Session}
 use Rattle.session.specs.declared.Note.{Note}
 use Rattle.session.specs.Fit.{Fit, NoteFit}
@@ -24,9 +26,9 @@ each_lt (x ∷ xs) [] h i = absurd h
 each_lt (x ∷ xs) (u ∷ us) h zero = h.0.1
 each_lt (x ∷ xs) (u ∷ us) h (suc i) = each_lt xs us h.1 i
 
-note_fits : (n : Note) (vs : List Val) → shadow (the_field.row.own_val (the_field.into n) vs) → NoteFit n
-note_fits Note.Absent vs h = tt
-note_fits (Note.Present low high) vs h = let fields = h.1.1.1.1 in (fields.0.1, fields.1.0.1)
+note_fits : (n : Option Note) (v : _) → shadow ((the_field the_row).row.own_val ((the_field the_row).into n) v) → NoteFit n
+note_fits None v h = tt
+note_fits (Some note) v h = let fields = h.1.1.1.1.0.1.1 in (fields.0.1, fields.1.0.1)
 
 pub session_fits : (s : Session) (vs : List Val) → Is (row the_type) s vs → Fit s
 session_fits s vs h =

@@ -10,19 +10,20 @@ ghost use Rattle.session.specs.Numbers.{number_of, numbers_of};
 use fault::{Fault, Telling};
 use place::GuestAddr;
 
-// The support note: absent and then without content, or the 16 bytes of two numbers.
-#[derive(Clone, Copy)]
-pub enum Note {
-    Absent,
-    Present(u64, u64),
+// The support note: 16 bytes, as two numbers.
+#[derive(Clone, Copy, PartialEq, Eq)]
+pub struct Note {
+    pub low: u64,
+    pub high: u64,
 }
 
-#[derive(Clone, Copy)]
+// A note that is absent has no content.
+#[derive(Clone, Copy, PartialEq, Eq)]
 pub struct Session {
     pub regs: [u64; 32],
     pub pc: GuestAddr,
     pub total: u64,
-    pub note: Note,
+    pub note: Option<Note>,
 }
 
 impl Session {
@@ -38,7 +39,7 @@ impl Session {
             regs: [0; 32],
             pc: GuestAddr(0),
             total: 0,
-            note: Note::Absent,
+            note: None,
         }
     }
 
@@ -47,35 +48,41 @@ impl Session {
         ensures { result ≡ start_of }
     {
         Session {
-            regs: [0; 32],
             pc: GuestAddr(GuestAddr::CODE),
-            total: 0,
-            note: Note::Absent,
+            ..Session::fresh()
         }
     }
 }
 
-// Why a run stopped. A step cannot raise "spent": it is no fault.
+// Why a run stopped. A step cannot raise "spent": it is no fault. No Option of a fault, since 01 names both stops (docs/DECISIONS.md).
 #[derive(Clone, Copy)]
 pub enum Stop {
     Raised(Fault),
     Spent,
 }
 
-// Why a call was refused, in the order of 01's numbers.
-#[derive(Clone, Copy)]
+// Why a call was refused, by 01's numbers.
+#[derive(Clone, Copy, PartialEq, Eq)]
 pub enum Refusal {
-    CodeLength,
-    WindowLength,
-    WindowPlace,
-    ZeroRegister,
-    Budget,
-    Total,
-    NoSyscall,
-    FileKind,
-    FileCut,
-    FileExtra,
-    BufferLength,
+    CodeLength = 1,
+    WindowLength = 2,
+    WindowPlace = 3,
+    ZeroRegister = 4,
+    Budget = 5,
+    Total = 6,
+    NoSyscall = 7,
+    FileKind = 11,
+    FileCut = 12,
+    FileExtra = 13,
+    BufferLength = 14,
+}
+
+impl From<Refusal> for u64 {
+    ghost from_gives = { λ refusal number. number ≡ number_of refusal };
+
+    fn from(refusal: Refusal) -> u64 {
+        refusal as u64
+    }
 }
 
 #[derive(Clone, Copy)]
@@ -100,56 +107,30 @@ pub struct Numbers {
     pub stop: Telling,
 }
 
-pub fn number(refusal: Refusal) -> u64
-    ensures { result ≡ number_of refusal }
-{
-    match refusal {
-        Refusal::CodeLength => 1,
-        Refusal::WindowLength => 2,
-        Refusal::WindowPlace => 3,
-        Refusal::ZeroRegister => 4,
-        Refusal::Budget => 5,
-        Refusal::Total => 6,
-        Refusal::NoSyscall => 7,
-        Refusal::FileKind => 11,
-        Refusal::FileCut => 12,
-        Refusal::FileExtra => 13,
-        Refusal::BufferLength => 14,
-    }
-}
-
-fn no_stop() -> Telling
-    ensures { result ≡ told_of 0 0 0 }
-{
-    Telling {
-        ecode: 0,
-        subcode: 0,
-        carried: 0,
-    }
-}
+const NO_STOP: Telling = Telling {
+    ecode: 0,
+    subcode: 0,
+    carried: 0,
+};
 
 // The numbers of an outcome: the only source of them.
-pub fn tell(outcome: Outcome) -> Numbers
-    ensures { result ≡ numbers_of outcome }
-{
-    match outcome {
-        Outcome::Stopped(stop) => match stop {
-            Stop::Raised(f) => Numbers {
+impl From<Outcome> for Numbers {
+    ghost from_gives = { λ outcome numbers. numbers ≡ numbers_of outcome };
+
+    fn from(outcome: Outcome) -> Numbers {
+        match outcome {
+            Outcome::Stopped(Stop::Raised(f)) => Numbers {
                 refused: 0,
-                stop: fault::tell(f),
+                stop: Telling::from(f),
             },
-            Stop::Spent => Numbers {
+            Outcome::Stopped(Stop::Spent) | Outcome::Answered => Numbers {
                 refused: 0,
-                stop: no_stop(),
+                stop: NO_STOP,
             },
-        },
-        Outcome::Answered => Numbers {
-            refused: 0,
-            stop: no_stop(),
-        },
-        Outcome::Refused(refusal) => Numbers {
-            refused: number(refusal),
-            stop: no_stop(),
-        },
+            Outcome::Refused(refusal) => Numbers {
+                refused: u64::from(refusal),
+                stop: NO_STOP,
+            },
+        }
     }
 }

@@ -2,33 +2,23 @@
 
 #![tactic(auto)]
 
-ghost use Rattle.std.specs.Prelude.{◌≡◌, ◌/◌, ◌^◌};
+ghost use Rattle.std.specs.Prelude.{◌≡◌, ◌≤◌, ◌/◌, ◌^◌};
 ghost use Rattle.opcode.specs.Decode.{decode_of};
-ghost use Rattle.short_immediates.specs.Found.{word_shift, double_shift};
+ghost use Rattle.short_immediates.specs.Found.{word_shift, bit_field};
 
 use fields::Field;
-use isa::{Decoded, Instruction};
+use isa::Instruction;
 use shift::Shift;
 
 // A shift of a word by an immediate, if bit 15 is set.
-fn word_shift(set: bool, op: Shift, word: u32) -> Decoded
+fn word_shift(set: bool, op: Shift, word: u32) -> Option<Instruction>
     ensures { result ≡ word_shift set op word }
 {
-    isa::only_if(
-        set,
-        Instruction::ShiftImmediate(op, operands::of_r2i5(word)),
-    )
-}
-
-// A shift of a double word by an immediate.
-fn double_shift(op: Shift, word: u32) -> Decoded
-    ensures { result ≡ double_shift op word }
-{
-    Decoded::Known(Instruction::ShiftImmediate(op, operands::of_r2i6(word)))
+    set.then_some(Instruction::ShiftImmediate(op, operands::of_r2i::<5>(word)))
 }
 
 // Shifts by an immediate.
-fn shift_immediates(word: u32) -> Decoded
+fn shift_immediates(word: u32) -> Option<Instruction>
     requires { word / 2 ^ 21 ≡ 2 }
     ensures { result ≡ decode_of word }
 {
@@ -37,30 +27,39 @@ fn shift_immediates(word: u32) -> Decoded
         0x44 => word_shift(word / 0x8000 % 2 == 1, Shift::SrlW, word),
         0x48 => word_shift(word / 0x8000 % 2 == 1, Shift::SraW, word),
         0x4c => word_shift(word / 0x8000 % 2 == 1, Shift::RotrW, word),
-        0x41 => double_shift(Shift::SllD, word),
-        0x45 => double_shift(Shift::SrlD, word),
-        0x49 => double_shift(Shift::SraD, word),
-        0x4d => double_shift(Shift::RotrD, word),
-        _ => Decoded::Unknown,
+        0x41 => Some(Instruction::ShiftImmediate(Shift::SllD, operands::of_r2i::<6>(word))),
+        0x45 => Some(Instruction::ShiftImmediate(Shift::SrlD, operands::of_r2i::<6>(word))),
+        0x49 => Some(Instruction::ShiftImmediate(Shift::SraD, operands::of_r2i::<6>(word))),
+        0x4d => Some(Instruction::ShiftImmediate(Shift::RotrD, operands::of_r2i::<6>(word))),
+        _ => None,
     }
 }
 
+// A bit field of a word or a double word, whose ends have `SIZE` bits each: msb is not below lsb.
+pub fn bit_field<const SIZE: u32>(op: Field, word: u32) -> Option<Instruction>
+    requires { SIZE ≤ 8 }
+    ensures { result ≡ bit_field SIZE op word }
+{
+    operands::field_exists::<SIZE>(word).then_some(Instruction::Field(
+        op,
+        operands::of_field::<SIZE>(word),
+    ))
+}
+
 // BSTRINS.W and BSTRPICK.W.
-fn word_fields(word: u32) -> Decoded
+fn word_fields(word: u32) -> Option<Instruction>
     requires { word / 2 ^ 21 ≡ 3 }
     ensures { result ≡ decode_of word }
 {
-    let exists = operands::field_w_exists(word);
-    let o = operands::of_field_w(word);
     if word / 0x8000 % 2 == 0 {
-        isa::only_if(exists, Instruction::Field(Field::BstrinsW, o))
+        bit_field::<5>(Field::BstrinsW, word)
     } else {
-        isa::only_if(exists, Instruction::Field(Field::BstrpickW, o))
+        bit_field::<5>(Field::BstrpickW, word)
     }
 }
 
 // Shifts by an immediate, and bit fields of a word.
-pub fn short_immediates(word: u32) -> Decoded
+pub fn short_immediates(word: u32) -> Option<Instruction>
     requires { word / 2 ^ 22 ≡ 1 }
     ensures { result ≡ decode_of word }
 {

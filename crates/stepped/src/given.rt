@@ -1,133 +1,98 @@
 // What a line gives: the machine before the step and the one after it.
-ghost use Rattle.std.specs.Prelude.{◌<◌};
+ghost use Rattle.std.specs.Prelude.{◌≤◌};
+
+use report::part::Part;
+
+// The length of a line, with its newline.
+pub const LINE: usize = 209;
 
 // The window's place in the arena, an odd one, and how many bytes the arena has after the window.
 pub const START: usize = 37;
 
 pub const AFTER: usize = 29;
 
-// Where the digits of the given bytes stand in a line, before and after.
-const BEFORE_BYTES: u64 = 115;
+// The most code, and the largest window.
+pub const CODE: usize = 65536;
 
-pub const AFTER_BYTES: u64 = 192;
+const WINDOW: usize = 65536;
 
-pub fn word(line: &[u8]) -> u32 {
-    text::half(line, 18)
-}
-
-pub fn pc_before(line: &[u8]) -> u64 {
-    text::number(line, 27, 16)
-}
-
-pub fn pc_after(line: &[u8]) -> u64 {
-    text::number(line, 155, 16)
-}
-
-// A number of five digits. The remainder tells the prover so.
-fn five(line: &[u8], at: u64) -> usize
-    ensures { result < 1048576 }
-{
-    (text::number(line, at, 5) % 0x10_0000) as usize
-}
-
-pub fn code_length(line: &[u8]) -> usize {
-    five(line, 44)
-}
-
-pub fn window_length(line: &[u8]) -> usize
-    ensures { result < 1048576 }
-{
-    five(line, 101)
-}
-
-fn given_bytes(line: &[u8]) -> usize
-    ensures { result < 16 }
-{
-    (text::number(line, 113, 1) % 16) as usize
-}
-
-// Whether the line is one: its letter is known, it ends where it should, and it gives at most eight bytes, all in the window.
-pub fn well_made(line: &[u8]) -> bool {
-    let letter = text::byte(line, 0);
-    let n = given_bytes(line);
-    let known = letter == b'Q' || letter == b'H';
-    known && text::byte(line, 208) == b'\n' && n <= 8 && five(line, 107) + n <= window_length(line)
-}
-
-// Where in the arena the bytes lie that the line gives, and how many they are.
 #[derive(Clone, Copy)]
-pub struct Part {
-    pub from: usize,
-    pub n: usize,
+pub struct Given<'a> {
+    pub code_length: usize,
+    pub window_length: usize,
+    pub word: u32,
+    pub pc: u64,
+    // The arena, and the registers, before the step and after it.
+    pub arena: Part<'a>,
+    pub arena_after: Part<'a>,
+    pub registers: [u64; 32],
+    pub registers_after: [u64; 32],
+    ghost code_fits: { code_length ≤ 65536 },
+    ghost window_fits: { window_length ≤ 65536 },
 }
 
-pub fn given_part(line: &[u8]) -> Part {
-    Part {
-        from: START + five(line, 107),
-        n: given_bytes(line),
+impl<'a> Given<'a> {
+    // Nothing where the line is none: its letter is not known, it does not end where it should, it needs more code or a larger
+    // window than there is, or it gives more than eight bytes or any outside the window.
+    pub fn of(line: &'a [u8]) -> Option<Self> {
+        let known = matches!(text::byte(line, 0), b'Q' | b'H');
+        let code_length = text::number(line, 44, 5) as usize;
+        let window_length = text::number(line, 101, 5) as usize;
+        let offset = text::number(line, 107, 5) as usize;
+        let n = text::number(line, 113, 1) as usize;
+        let is_line = known && text::byte(line, 208) == b'\n' && n <= 8;
+        let fits = code_length <= CODE && window_length <= WINDOW && offset + n <= window_length;
+        if !is_line || !fits {
+            return None;
+        }
+        let from = START + offset;
+        let word = text::half(line, 18);
+        let registers = registers(line, word);
+        Some(Given {
+            code_length,
+            window_length,
+            word,
+            pc: text::number(line, 27, 16),
+            arena: Part {
+                from,
+                digits: text::part(line, 115, 2 * n),
+            },
+            arena_after: Part {
+                from,
+                digits: text::part(line, 192, 2 * n),
+            },
+            registers,
+            registers_after: registers_after(line, registers),
+        })
     }
-}
 
-// Byte i of the arena, with the line's part, whose digits stand at a place: before or after the step.
-pub fn arena_byte(line: &[u8], p: Part, digits: u64, i: usize) -> u8 {
-    if i < p.from || i - p.from >= p.n {
-        return report::pattern(i);
-    }
-    let nth = ((i - p.from) % 8) as u64;
-    text::pair(line, std::num::wrapping_add_u64(digits, nth * 2))
-}
-
-// The arena before the step.
-pub fn fill(arena: &mut [u8], line: &[u8]) {
-    let p = given_part(line);
-    for i in 0usize..arena.len() {
-        arena[i] = arena_byte(line, p, BEFORE_BYTES, i);
-    }
-}
-
-// Puts a word at the line's pc, where the code reaches so far: also where pc is not a multiple of 4, so that a step that forgets
-// to test it does something.
-pub fn put_word(code: &mut [u8], line: &[u8], word: u32) {
-    let at = std::num::wrapping_sub_u64(pc_before(line), 0x1_0000);
-    if at < 65536 {
-        let place = at as usize;
-        if place + 4 <= code.len() {
-            byte_order::put4(code, place, word as u64);
+    // Puts a word at the line's pc, where the code reaches so far: also where pc is not a multiple of 4, so that a step that forgets
+    // to test it does something.
+    pub fn put_word(&self, code: &mut [u8], word: u32) {
+        let at = self.pc.wrapping_sub(0x1_0000) as usize;
+        let place = code.get_mut(at..).and_then(|rest| rest.first_chunk_mut());
+        if let Some(bytes) = place {
+            *bytes = word.to_le_bytes();
         }
     }
 }
 
-fn set(regs: &mut [u64; 32], i: u8, v: u64) {
-    let at = i as usize % 32;
-    regs[at] = v;
-}
-
-// Register i has its number in each of its bytes.
-fn pattern_registers() -> [u64; 32] {
-    let mut regs = [0u64; 32];
-    for i in 0usize..32 {
-        regs[i] = i as u64 * 0x0101_0101_0101_0101;
+// Register i has its number in each of its bytes, but for the three that the word's fields name: the line has their values.
+fn registers(line: &[u8], word: u32) -> [u64; 32] {
+    let mut registers = [0u64; 32];
+    for (register, i) in registers.iter_mut().zip(0u8..) {
+        *register = u64::from_le_bytes([i; 8]);
     }
-    regs
-}
-
-// The pattern, but for the three registers that the word's fields name: the line has their values.
-pub fn registers_before(line: &[u8]) -> [u64; 32] {
-    let w = word(line);
-    let mut regs = pattern_registers();
-    set(&mut regs, (w % 32) as u8, text::number(line, 50, 16));
-    set(&mut regs, (w / 32 % 32) as u8, text::number(line, 67, 16));
-    set(&mut regs, (w / 1024 % 32) as u8, text::number(line, 84, 16));
-    regs
+    registers[(word % 32) as usize] = text::number(line, 50, 16);
+    registers[(word / 32 % 32) as usize] = text::number(line, 67, 16);
+    registers[(word / 1024 % 32) as usize] = text::number(line, 84, 16);
+    registers
 }
 
 // As before, but for the register that changed. A line where none did says that register 0 is 0.
-pub fn registers_after(line: &[u8]) -> [u64; 32] {
-    let mut regs = registers_before(line);
-    set(
-        &mut regs,
-        text::pair(line, 172),
-        text::number(line, 175, 16),
-    );
-    regs
+fn registers_after(line: &[u8], before: [u64; 32]) -> [u64; 32] {
+    let mut registers = before;
+    let changed = text::pair(line, 172) % 32;
+    registers[changed as usize] = text::number(line, 175, 16);
+    registers
 }

@@ -11,147 +11,92 @@
 // All else is a pattern that `given` makes, and must not change.
 #![tactic(auto)]
 
-mod differ;
 mod given;
 
-use apply::{End, Stepped};
-use fault::Telling;
+use apply::Stepped;
+use fault::{Fault, Telling};
+use given::{CODE, Given, LINE};
 use place::{ArenaOffset, GuestAddr, Window};
-use report::tally;
-use report::tally::Tally;
+use report::case::Case;
+use report::lines;
+use report::lines::{Line, Lines};
+use report::recording::Recording;
 use std::io;
-use std::io::Read;
 
-// The length of a line, with its newline.
-const LINE: usize = 209;
-
-// The most code, and the arena that the largest window needs.
-const CODE: usize = 65536;
-
+// The arena that the largest window needs.
 const ARENA: usize = 65602;
 
 // The numbers of a stop; an instruction that completes has zeros, as the line has.
-fn stop_numbers(end: End) -> Telling {
+fn stop_numbers(end: Result<(), Fault>) -> Telling {
     match end {
-        End::Done => Telling {
+        Ok(()) => Telling {
             ecode: 0,
             subcode: 0,
             carried: 0,
         },
-        End::Raised(f) => fault::tell(f),
+        Err(fault) => Telling::from(fault),
     }
 }
 
-// Prints what is not as the line says, and says whether anything is.
-fn compare(
-    rt: &impl Print,
-    number: u64,
-    line: &[u8],
+// Prints what is not as the line says.
+fn compare<P: Print>(
+    case: &mut Case<'_, P>,
+    given: &Given<'_>,
     s: Stepped,
     arena: &[u8],
-) -> io::Result<bool> {
-    let end = s.end;
-    let regs = s.regs;
-    let pc = s.pc;
-    let wanted = given::registers_after(line);
-    let stop = differ::stop(rt, number, line, stop_numbers(end))?;
-    let place = report::value(rt, number, b"pc", pc.0, given::pc_after(line))?;
-    let registers = report::registers(rt, number, &regs, &wanted)?;
-    let bytes = differ::arena(rt, number, line, arena)?;
-    Ok(stop || place || registers || bytes)
+) -> io::Result<()> {
+    let stop = stop_numbers(s.end);
+    case.field("ecode", stop.ecode, 132, 2)?;
+    case.field("subcode", stop.subcode, 135, 2)?;
+    case.field("carried", stop.carried, 138, 16)?;
+    case.field("pc", s.pc.0, 155, 16)?;
+    case.registers(&s.regs, &given.registers_after)?;
+    // Every byte of the arena, outside the window too.
+    case.bytes("arena byte", arena, |i| given.arena_after.byte(i))
 }
 
-// Runs a line's step in this code and this arena, and compares.
-fn differs_in(
-    rt: &impl Print,
-    number: u64,
-    line: &[u8],
-    code: &[u8],
-    arena: &mut [u8],
-) -> io::Result<bool> {
-    let len = given::window_length(line);
-    if given::START + len > arena.len() {
-        return Ok(report::no_case(rt, number)?.differs);
-    }
-    let window = Window {
-        start: ArenaOffset(given::START),
-        len: len,
-    };
-    given::fill(arena, line);
-    let regs = given::registers_before(line);
-    let pc = GuestAddr(given::pc_before(line));
-    let s = cpu::step(code, arena, window, regs, pc);
-    compare(rt, number, line, s, arena)
-}
-
-// Gives a line's step as much code and arena as the line says, with the word in its place.
-fn differs(
-    rt: &impl Print,
-    number: u64,
-    line: &[u8],
-    code: &mut [u8],
-    arena: &mut [u8],
-) -> io::Result<bool> {
-    let code_len = given::code_length(line);
-    let end = given::START + given::window_length(line) + given::AFTER;
-    if code_len > code.len() || end > arena.len() || !given::well_made(line) {
-        return Ok(report::no_case(rt, number)?.differs);
-    }
-    given::put_word(code, line, given::word(line));
-    let answer = differs_in(rt, number, line, &code[0..code_len], &mut arena[0..end])?;
-    given::put_word(code, line, 0);
-    Ok(answer)
-}
-
-// The tally after one more line, and whether there was one.
-#[derive(Clone, Copy)]
-struct Turn {
-    more: bool,
-    tally: Tally,
-}
-
-fn take_line<R: Read>(
-    rt: &impl Print,
-    input: &mut R,
-    t: Tally,
+// Makes a line's step in as much code and arena as the line says, with the word in its place, and compares.
+fn hold<P: Print>(
+    case: &mut Case<'_, P>,
+    given: &Given<'_>,
     code: &mut [u8; CODE],
     arena: &mut [u8; ARENA],
-) -> io::Result<Turn> {
-    let mut line = [0u8; LINE];
-    let n = report::read_full(input, &mut line)?;
-    if n == LINE {
-        let of_group = tally::for_line(rt, t, &line)?;
-        let d = differs(rt, tally::next_number(t), &line, code, arena)?;
-        return Ok(Turn {
-            more: true,
-            tally: tally::count(of_group, &line, d),
-        });
-    }
-    if n != 0 {
-        report::print_cut(rt)?;
-    }
-    Ok(Turn {
-        more: false,
-        tally: t,
-    })
+) -> io::Result<()> {
+    let window = Window {
+        start: ArenaOffset(given::START),
+        len: given.window_length,
+    };
+    let lent = &mut arena[..given::START + given.window_length + given::AFTER];
+    report::fill_with(lent, |i| given.arena.byte(i));
+    given.put_word(code, given.word);
+    let s = cpu::step(
+        &code[..given.code_length],
+        lent,
+        window,
+        given.registers,
+        GuestAddr(given.pc),
+    );
+    given.put_word(code, 0);
+    compare(case, given, s, lent)
 }
 
-// A proved loop has to end, and nothing says that the input does: so the turns are counted down from a number that no run uses up.
+// A proved loop has to end, and nothing says that the input does: so the lines are numbered up to a number that no run reaches.
 fn main(rt: HostRuntime) -> io::Result<()> {
-    let mut input = rt.reader();
     let mut code = [0u8; CODE];
     let mut arena = [0u8; ARENA];
-    let mut t = tally::none();
-    let mut turns = u64::MAX;
-    while turns > 0 {
-        let s = take_line(&rt, &mut input, t, &mut code, &mut arena)?;
-        t = s.tally;
-        if s.more {
-            turns -= 1;
-        } else {
-            turns = 0;
+    let mut recording = Recording::default();
+    for (number, line) in (1..u64::MAX).zip(Lines::<_, LINE>::new(rt.reader())) {
+        let Line::Whole(line) = line? else {
+            lines::print_cut(&rt)?;
+            break;
+        };
+        recording.begin(&rt, &line)?;
+        let mut case = Case::new(&rt, number, &line);
+        match Given::of(&line) {
+            Some(given) => hold(&mut case, &given, &mut code, &mut arena)?,
+            None => case.no_case()?,
         }
+        recording.count(&line, case.differs);
     }
-    tally::print_group(&rt, t)?;
-    tally::print_totals(&rt, t)
+    recording.end(&rt)
 }

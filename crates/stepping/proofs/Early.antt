@@ -1,21 +1,19 @@
 -- What is raised before an instruction executes: INE where there is no such instruction, ADEF where there is no word, and neither
 -- by an instruction that exists.
 use mathlib.Core.Path.{◌≡◌, refl, sym, ap, ◌∙◌}
+use Rattle.std.specs.Prelude.{Option, Some, None, ok_or, Result, Ok, Err}
 use mathlib.Core.Bool.{Bool, true, false, cond, ◌&&◌}
 use mathlib.Core.List.{List}
 use Prim.Native.Nat.{ℕ, ◌+◌, ◌-◌, ◌%◌}
-use native.Mathlib.Omega.{arith}
 use lib.Dec.{eqb}
 use lib.ListN.{length}
 use borrow.Author.Tests.{eqb-true, eq-eqb, le-leb}
-use Rattle.place.specs.declared.FetchPlace.{FetchPlace}
+use Rattle.place.specs.declared.ArenaOffset.{ArenaOffset}
 use Rattle.place.specs.declared.GuestAddr.{GuestAddr}
-use Rattle.place.specs.declared.Located.{Located}
 use Rattle.place.specs.declared.Width.{Width}
 use Rattle.place.specs.declared.Window.{Window}
 use Rattle.place.specs.Place.{code_base, bytes_of, within_of, locate_of, fetch_place_of}
 use Rattle.place.proofs.Reach.{within_true}
-use Rattle.isa.specs.declared.Decoded.{Decoded}
 use Rattle.isa.specs.declared.Instruction.{Instruction}
 use Rattle.isa.specs.declared.Jump.TheVariants.{B, Bl, Jirl}
 use Rattle.isa.specs.declared.Pointer.TheVariants.{LdptrW, LdptrD, StptrW, StptrD}
@@ -28,27 +26,24 @@ use Rattle.control.specs.Control.{passes_of}
 use Rattle.operate.specs.Operate.{next_of}
 use Rattle.effect.specs.declared.Effect.{Effect}
 use Rattle.effect.specs.Effect.{effect_of}
-use Rattle.apply.specs.declared.Access.{Access}
-use Rattle.apply.specs.declared.End.{End}
-use Rattle.cpu.specs.declared.Fetched.{Fetched}
-use Rattle.apply.specs.Machine.{State, Ended}
-use Rattle.apply.specs.Apply.{access_in, access_of, load_of, store_of, apply_of}
+use Rattle.apply.specs.Machine.{End, State, Ended}
+use Rattle.apply.specs.Apply.{access_of, load_of, store_of, apply_of}
 use Rattle.cpu.specs.Step.{fetch_of, step_of, fetched_at, step_decoded, step_fetched}
 use Rattle.stepping.specs.Stepping.{InCode, AdefRaised, AdefOnly, word_at, IneRaised, IneOnly, early, ExistingIsLate}
 
 -- inside code the word is fetched
-pub fetched : (code : List ℕ) (pc : GuestAddr) → InCode code pc → fetch_of code pc ≡ Fetched.Word (word_at code pc)
+pub fetched : (code : List ℕ) (pc : GuestAddr) → InCode code pc → fetch_of code pc ≡ Some (word_at code pc)
 unfolding fetch_of fetch_place_of
 fetched code pc i =
     rw (eq-eqb (pc.0 % 4) 0 i.0, le-leb code_base pc.0 i.1, le-leb (pc.0 + 4) (code_base + length code) i.2) refl
 
 -- elsewhere no word is
-unfetched : (code : List ℕ) (pc : GuestAddr) → (InCode code pc → ⊥) → fetch_of code pc ≡ Fetched.Bad
+unfetched : (code : List ℕ) (pc : GuestAddr) → (InCode code pc → ⊥) → fetch_of code pc ≡ None
 unfolding fetch_of fetch_place_of
 unfetched code pc out = go (eqb (pc.0 % 4) 0) (within_of code_base (length code) pc.0 4) refl refl
   where
     go : (s t : Bool) → eqb (pc.0 % 4) 0 ≡ s → within_of code_base (length code) pc.0 4 ≡ t
-        → fetched_at (cond (s && t) (FetchPlace.At (record { 0 = pc.0 - code_base })) FetchPlace.Outside) code ≡ Fetched.Bad
+        → fetched_at (cond (s && t) (Some (record { 0 = pc.0 - code_base })) None) code ≡ None
     go true true p q =
         let i = within_true code_base (length code) pc.0 4 q in
         absurd (out (eqb-true (pc.0 % 4) 0 p, i.0, i.1))
@@ -71,13 +66,13 @@ early_effect (Effect.Jump to) = false
 early_effect (Effect.Load kind rd a) = false
 early_effect (Effect.Store k v a) = false
 
-abbrev early_access : Access → Bool
-early_access (Access.At o) = false
-early_access (Access.Denied f) = early f
+abbrev early_access : Result ArenaOffset Fault → Bool
+early_access (Ok o) = false
+early_access (Err f) = early f
 
 abbrev early_end : End → Bool
-early_end End.Done = false
-early_end (End.Raised f) = early f
+early_end (Ok u) = false
+early_end (Err f) = early f
 
 effect_late : (i : Instruction) (gr : List ℕ) (pc : GuestAddr) → early_effect (effect_of i gr pc) ≡ false
 unfolding effect_of
@@ -120,9 +115,9 @@ access_late : (w : Window) (a : GuestAddr) (k : Width) → early_access (access_
 unfolding access_of
 access_late w a k = go (eqb (a.0 % bytes_of k) 0) (locate_of w a k)
   where
-    go : (t : Bool) (l : Located) → early_access (cond t (access_in l a) (Access.Denied (Fault.Ale a))) ≡ false
-    go true (Located.At o) = refl
-    go true Located.Outside = refl
+    go : (t : Bool) (l : Option ArenaOffset) → early_access (cond t (ok_or l (Fault.Adem a)) (Err (Fault.Ale a))) ≡ false
+    go true (Some o) = refl
+    go true None = refl
     go false l = refl
 
 apply_late : (w : Window) (e : Effect) (s : State) → early_effect e ≡ false → early_end (apply_of w e s).end ≡ false
@@ -131,14 +126,14 @@ apply_late w (Effect.Write rd v to) s l = refl
 apply_late w (Effect.Jump to) s l = refl
 apply_late w (Effect.Load kind rd a) s l = go (access_of w a (load_width_of kind)) (access_late w a (load_width_of kind))
   where
-    go : (x : Access) → early_access x ≡ false → early_end (load_of x kind rd s).end ≡ false
-    go (Access.At o) h = refl
-    go (Access.Denied f) h = h
+    go : (x : Result ArenaOffset Fault) → early_access x ≡ false → early_end (load_of x kind rd s).end ≡ false
+    go (Ok o) h = refl
+    go (Err f) h = h
 apply_late w (Effect.Store k v a) s l = go (access_of w a k) (access_late w a k)
   where
-    go : (x : Access) → early_access x ≡ false → early_end (store_of x k v s).end ≡ false
-    go (Access.At o) h = refl
-    go (Access.Denied f) h = h
+    go : (x : Result ArenaOffset Fault) → early_access x ≡ false → early_end (store_of x k v s).end ≡ false
+    go (Ok o) h = refl
+    go (Err f) h = h
 apply_late w (Effect.Raise f) s l = l
 
 pub existing_is_late : ExistingIsLate
@@ -146,7 +141,7 @@ unfolding step_of
 existing_is_late g s i f h k e =
     let x = effect_of i s.regs s.pc in
     let q : step_of g s ≡ apply_of g.window x s = rw (step_of, fetched g.code s.pc h, k) refl in
-    let r : (apply_of g.window x s).end ≡ End.Raised f = ap (λ (y : Ended). y.end) (sym q) ∙ e in
+    let r : (apply_of g.window x s).end ≡ Err f = ap (λ (y : Ended). y.end) (sym q) ∙ e in
     ap early_end (sym r) ∙ apply_late g.window x s (effect_late i s.regs s.pc)
 
 pub ine_only : IneOnly
@@ -155,13 +150,12 @@ ine_only g s i word e = go (decode_of here) refl
     here : ℕ
     here = word_at g.code s.pc
 
-    go : (d : Decoded) → decode_of here ≡ d → (decode_of here ≡ Decoded.Unknown) × (word ≡ here)
-    go (Decoded.Known n) k =
+    go : (d : Option Instruction) → decode_of here ≡ d → (decode_of here ≡ None) × (word ≡ here)
+    go (Some n) k =
         let h = existing_is_late g s n (Fault.Ine word) i k e in
-        let z : ◌≡◌ {A = ℕ} 0 1 = cc in
-        absurd (omega arith)
-    go Decoded.Unknown k =
-        let q : End.Raised (Fault.Ine here) ≡ End.Raised (Fault.Ine word) = sym (ine_raised g s i k) ∙ e in
+        absurd (cc)
+    go None k =
+        let q : Err (Fault.Ine here) ≡ Err (Fault.Ine word) = sym (ine_raised g s i k) ∙ e in
         let h : word ≡ here = cc in
         (k, h)
 
@@ -169,17 +163,16 @@ pub adef_only : AdefOnly
 unfolding step_of
 adef_only g s a e = go (fetch_of g.code s.pc) refl e
   where
-    done_late : (word : ℕ) (d : Decoded) → (step_decoded d word g s).end ≡ End.Raised (Fault.Adef a) → ⊥
-    done_late word (Decoded.Known i) q =
+    done_late : (word : ℕ) (d : Option Instruction) → (step_decoded d word g s).end ≡ Err (Fault.Adef a) → ⊥
+    done_late word (Some i) q =
         let l = apply_late g.window (effect_of i s.regs s.pc) s (effect_late i s.regs s.pc) in
-        let h : early_end (End.Raised (Fault.Adef a)) ≡ false = ap early_end (sym q) ∙ l in
-        let z : ◌≡◌ {A = ℕ} 0 1 = cc in
-        absurd (omega arith)
-    done_late word Decoded.Unknown q = let z : ◌≡◌ {A = ℕ} 0 1 = cc in absurd (omega arith)
+        let h : early_end (Err (Fault.Adef a)) ≡ false = ap early_end (sym q) ∙ l in
+        absurd (cc)
+    done_late word None q = absurd (cc)
 
-    go : (x : Fetched) → fetch_of g.code s.pc ≡ x → (step_fetched x g s).end ≡ End.Raised (Fault.Adef a)
+    go : (x : Option ℕ) → fetch_of g.code s.pc ≡ x → (step_fetched x g s).end ≡ Err (Fault.Adef a)
         → (InCode g.code s.pc → ⊥) × (a ≡ s.pc)
-    go (Fetched.Word word) p q = absurd (done_late word (decode_of word) q)
-    go Fetched.Bad p q =
+    go (Some word) p q = absurd (done_late word (decode_of word) q)
+    go None p q =
         let h : a ≡ s.pc = cc in
-        ((λ (i : InCode g.code s.pc). let f = fetched g.code s.pc i in let z : ◌≡◌ {A = ℕ} 0 1 = cc in absurd (omega arith)), h)
+        ((λ (i : InCode g.code s.pc). let f = fetched g.code s.pc i in absurd (cc)), h)

@@ -1,15 +1,13 @@
 -- What holds of every step, for all code, registers, pc, windows and arenas (01, "Stops"). The proofs are in proofs/.
-use Rattle.std.specs.Prelude.{ℕ, ◌+◌, ◌-◌, ◌%◌, ◌≤◌, ◌≡◌, Bool, true, false, List, length, get_or}
+use Rattle.std.specs.Prelude.{ℕ, ◌+◌, ◌-◌, ◌%◌, ◌≤◌, ◌≡◌, Bool, true, false, List, length, get_or, Some, None, Err}
 use Rattle.place.specs.declared.GuestAddr.{GuestAddr}
 use Rattle.place.specs.Place.{Inside, code_base}
 use Rattle.byte_order.specs.Bytes.{get_le}
-use Rattle.isa.specs.declared.Decoded.{Decoded}
 use Rattle.isa.specs.declared.Instruction.{Instruction}
 use Rattle.opcode.specs.Decode.{decode_of}
 use Rattle.registers.specs.Registers.{reg}
 use Rattle.fault.specs.declared.Fault.{Fault}
 use Rattle.fault.specs.declared.Fault.TheVariants.{Adef, Adem, Ale, Bce, Syscall, Break, Ine}
-use Rattle.apply.specs.declared.End.{End}
 use Rattle.apply.specs.Machine.{Ground, State, Ended}
 use Rattle.cpu.specs.Step.{step_of}
 
@@ -19,7 +17,7 @@ EveryStep P = (g : Ground) (s : State) → P g s (step_of g s)
 
 -- "A raising instruction changes nothing, pc included"
 abbrev pub RaisingChangesNothing : Type 0
-RaisingChangesNothing = EveryStep (λ g s e. (f : Fault) → e.end ≡ End.Raised f → e.state ≡ s)
+RaisingChangesNothing = EveryStep (λ g s e. (f : Fault) → e.end ≡ Err f → e.state ≡ s)
 
 -- "Register 0 is always zero"
 abbrev pub ZeroStays : Type 0
@@ -43,24 +41,24 @@ word_at code pc = get_le 4 (pc.0 - code_base) code
 
 -- ADEF everywhere else: it carries the pc
 abbrev pub AdefRaised : Type 0
-AdefRaised = EveryStep (λ g s e. (InCode g.code s.pc → ⊥) → e.end ≡ End.Raised (Adef s.pc))
+AdefRaised = EveryStep (λ g s e. (InCode g.code s.pc → ⊥) → e.end ≡ Err (Adef s.pc))
 
 -- and ADEF nowhere inside code
 abbrev pub AdefOnly : Type 0
-AdefOnly = EveryStep (λ g s e. (a : GuestAddr) → e.end ≡ End.Raised (Adef a) → (InCode g.code s.pc → ⊥) × (a ≡ s.pc))
+AdefOnly = EveryStep (λ g s e. (a : GuestAddr) → e.end ≡ Err (Adef a) → (InCode g.code s.pc → ⊥) × (a ≡ s.pc))
 
 -- INE where decoding says that there is no such instruction: it carries the word there
 abbrev pub IneRaised : Type 0
 IneRaised =
     EveryStep
-    (λ g s e. InCode g.code s.pc → decode_of (word_at g.code s.pc) ≡ Decoded.Unknown → e.end ≡ End.Raised (Ine (word_at g.code s.pc)))
+    (λ g s e. InCode g.code s.pc → decode_of (word_at g.code s.pc) ≡ None → e.end ≡ Err (Ine (word_at g.code s.pc)))
 
 -- and INE nowhere else inside code
 abbrev pub IneOnly : Type 0
 IneOnly =
     EveryStep
-    (λ g s e. InCode g.code s.pc → (x : ℕ) → e.end ≡ End.Raised (Ine x)
-    → (decode_of (word_at g.code s.pc) ≡ Decoded.Unknown) × (x ≡ word_at g.code s.pc))
+    (λ g s e. InCode g.code s.pc → (x : ℕ) → e.end ≡ Err (Ine x)
+    → (decode_of (word_at g.code s.pc) ≡ None) × (x ≡ word_at g.code s.pc))
 
 -- what is raised before an instruction executes
 abbrev pub early : Fault → Bool
@@ -76,5 +74,5 @@ early (Break code) = false
 abbrev pub ExistingIsLate : Type 0
 ExistingIsLate =
     EveryStep
-    (λ g s e. (i : Instruction) (f : Fault) → InCode g.code s.pc → decode_of (word_at g.code s.pc) ≡ Decoded.Known i
-    → e.end ≡ End.Raised f → early f ≡ false)
+    (λ g s e. (i : Instruction) (f : Fault) → InCode g.code s.pc → decode_of (word_at g.code s.pc) ≡ Some i
+    → e.end ≡ Err f → early f ≡ false)

@@ -1,7 +1,27 @@
 // Numbers in a line of text. Past the line's end there are zeros, so no caller has to know its length.
 #![tactic(auto)]
 
-ghost use Rattle.std.specs.Prelude.{◌+◌, ◌^◌, ◌<◌, ◌≤◌};
+ghost use Rattle.std.specs.Prelude.{◌↔◌, ◌⊎◌, IsTrue, ◌+◌, ◌*◌, ◌^◌, ◌<◌, ◌≤◌};
+
+// A hexadecimal digit, of which the letters are small ones.
+pub fn is_digit(b: u8) -> bool
+    ensures { IsTrue result ↔ (((48 ≤ b) × (b ≤ 57)) ⊎ ((97 ≤ b) × (b ≤ 102))) }
+{
+    matches!(b, b'0'..=b'9' | b'a'..=b'f')
+}
+
+pub fn is_printable(b: u8) -> bool
+    ensures { IsTrue result ↔ ((32 ≤ b) × (b ≤ 126)) }
+{
+    matches!(b, b' '..=b'~')
+}
+
+// Whether each column of a line has what may stand in it.
+pub fn has_columns<F: Fn(usize, u8) -> bool>(line: &[u8], fits: F) -> bool
+    requires { F.IsAlwaysCallable fits }
+{
+    line.iter().enumerate().all(|(column, b)| fits(column, *b))
+}
 
 fn digit(b: u8) -> u64
     ensures { result < 16 }
@@ -14,53 +34,48 @@ fn digit(b: u8) -> u64
 }
 
 pub fn byte(s: &[u8], at: usize) -> u8 {
-    if at < s.len() { s[at] } else { 0 }
+    s.get(at).copied().unwrap_or(0)
 }
 
-// A number with room for one more digit, decimal or hexadecimal: it is cut first, so that it fits.
-fn shifted(v: u64, decimal: bool) -> u64
-    ensures { result + 16 ≤ 2 ^ 64 }
+// The low 64 bits of the number that n digits at a place stand for: it is cut before each digit, so that it fits. The line may end
+// before the last digit, so the digits are asked for by their places.
+fn of_digits<const BASE: u64>(s: &[u8], at: usize, n: usize) -> u64
+    requires { BASE ≤ 16 }
+    ensures { result < 16 ^ n }
 {
-    let cut = v % 0x1000_0000_0000_0000;
-    if decimal { cut * 10 } else { cut * 16 }
-}
-
-fn of_digits(s: &[u8], at: u64, n: u64, decimal: bool) -> u64 {
-    let mut v: u64 = 0;
-    for i in 0u64..n {
-        let place = std::num::wrapping_add_u64(at, i) as usize;
-        v = shifted(v, decimal) + digit(byte(s, place));
+    let mut value = 0;
+    for i in 0..n {
+        let cut = value % 0x1000_0000_0000_0000;
+        value = cut * BASE + digit(byte(s, at.wrapping_add(i)));
     }
-    v
+    value
 }
 
 // The number that n hexadecimal digits at a place stand for, its low 64 bits.
-pub fn number(s: &[u8], at: u64, n: u64) -> u64 {
-    of_digits(s, at, n, false)
+pub fn number(s: &[u8], at: usize, n: usize) -> u64
+    ensures { result < 16 ^ n }
+{
+    of_digits::<16>(s, at, n)
 }
 
 // The number that n decimal digits at a place stand for, of which there are at most 18.
-pub fn decimal(s: &[u8], at: u64, n: u64) -> u64 {
-    of_digits(s, at, n, true)
+pub fn decimal(s: &[u8], at: usize, n: usize) -> u64
+    ensures { result < 16 ^ n }
+{
+    of_digits::<10>(s, at, n)
 }
 
 // A number of two digits.
-pub fn pair(s: &[u8], at: u64) -> u8 {
-    (number(s, at, 2) % 0x100) as u8
+pub fn pair(s: &[u8], at: usize) -> u8 {
+    number(s, at, 2) as u8
 }
 
 // A number of eight digits.
-pub fn half(s: &[u8], at: u64) -> u32 {
-    (number(s, at, 8) % 0x1_0000_0000) as u32
+pub fn half(s: &[u8], at: usize) -> u32 {
+    number(s, at, 8) as u32
 }
 
 // n bytes from a place on, or none where the line is shorter.
 pub fn part(s: &[u8], at: usize, n: usize) -> &[u8] {
-    if at <= s.len() {
-        if n <= s.len() - at {
-            let end = at + n;
-            return &s[at..end];
-        }
-    }
-    &s[0..0]
+    s.get(at..).and_then(|rest| rest.get(..n)).unwrap_or(&[])
 }

@@ -1,16 +1,17 @@
 -- Uniqueness (01, "What the bench engineers must be able to rely on": "Uniqueness of the answer is itself proved"): of each host call, two
 -- answers that meet its promise on the same inputs are equal, with the buffer afterwards where there is one. So too of each call of the
 -- archives. The proofs are in proofs/One.antt.
-use Rattle.std.specs.Prelude.{ℕ, ◌≡◌, List}
+use Rattle.std.specs.Prelude.{ℕ, ◌≡◌, List, Option, Result}
 use Rattle.apply.specs.Machine.{Ground}
-use Rattle.isa.specs.declared.Decoded.{Decoded}
+use Rattle.isa.specs.declared.Instruction.{Instruction}
 use Rattle.opcode.specs.Decode.{Decodes}
 use Rattle.session.specs.declared.Session.{Session}
+use Rattle.session.specs.declared.Refusal.{Refusal}
 use Rattle.session.specs.declared.Reply.{Reply}
 use Rattle.running.specs.Call.{Runs}
 use Rattle.service.specs.Answer.{Answers}
-use Rattle.file.specs.declared.Written.{Written}
 use Rattle.file.specs.declared.Reading.{Reading}
+use Rattle.file.specs.declared.FileRefusal.{FileRefusal}
 use Rattle.file.specs.Promises.{Writes, Reads}
 use Rattle.records.specs.declared.SessionRecord.{SessionRecord}
 use Rattle.records.specs.declared.ReplyRecord.{ReplyRecord}
@@ -36,15 +37,15 @@ AnswerUnique = (code : List ℕ) (s : Session) (value : ℕ) → AtMostOne (λ (
 
 -- decode
 abbrev pub DecodeUnique : Type 0
-DecodeUnique = (word : ℕ) → AtMostOne (λ (d : Decoded). Decodes word d)
+DecodeUnique = (word : ℕ) → AtMostOne (λ (d : Option Instruction). Decodes word d)
 
 -- write: the reply and the buffer afterwards
 abbrev pub WriteUnique : Type 0
-WriteUnique = (s : Session) (buffer : List ℕ) → AtMostOne (λ (x : Written × List ℕ). Writes s buffer x.0 x.1)
+WriteUnique = (s : Session) (buffer : List ℕ) → AtMostOne (λ (x : Result ℕ Refusal × List ℕ). Writes s buffer x.0 x.1)
 
 -- read: verdict, session and offset
 abbrev pub ReadUnique : Type 0
-ReadUnique = (f : List ℕ) → AtMostOne (λ (r : Reading). Reads f r)
+ReadUnique = (f : List ℕ) → AtMostOne (λ (r : Result Reading FileRefusal). Reads f r)
 
 -- the archives: run, answer, decode, write, read
 abbrev pub RunRecordUnique : Type 0

@@ -1,10 +1,10 @@
 -- The signed reading of a number, at every width w that the machine has: from bits to the signed number and back. Assumes nothing.
-use Rattle.std.proofs.Common.{◌≡◌, ℕ, zero, suc, ◌+◌, ◌-◌, ◌%◌, ◌^◌, ◌<◌, ◌≤◌, Bool, true, false, cond, T, ltb, leb, ℤ, pos, negsuc, ◌+ℤ◌, ◌-ℤ◌, nat_abs, sym, refl, ap, ◌∙◌, subst, mod-lt, mod-eq_of_lt, arith, pow_pos, to_z-of_z, w8, w16, w32, w64, Fits, SFits, to_z, of_z, ltb-false, ltb-true, le-ltb, lt-ltb, leb-false}
+use Rattle.std.proofs.Common.{◌≡◌, ℕ, zero, suc, ◌+◌, ◌-◌, ◌%◌, ◌^◌, ◌<◌, ◌≤◌, Bool, true, false, cond, ltb, ℤ, pos, negsuc, ◌-ℤ◌, sym, refl, ap, ◌∙◌, subst, mod-lt, mod-eq_of_lt, arith, pow_pos, to_z-of_z, w8, w16, w32, w64, SFits, to_z, of_z, ltb-false, ltb-true}
 use native.Mathlib.Nat.{add-mod_right}
-use lib.Signed.{le_z, non_neg, shr_z, mag_shr}
+use lib.Signed.{shr_z, mag_shr}
 use mir.Syntax.{Width, w128}
 use mir.Val.{sel, bits, hbits}
-use mir.Facts.{sfits_to_z, sfits_widen, to_z_pos}
+use mir.Facts.{sfits_to_z}
 use Rattle.word.specs.Word.{low, cut, signed, signed_of}
 
 sel_cond : (b : Bool) (p q : ℤ) → sel b p q ≡ cond b p q
@@ -52,34 +52,6 @@ of_z_cut w (negsuc n) f =
 pub back : {w : Width} {r x : ℤ} → r ≡ x → SFits w x → to_z w (of_z w r) ≡ x
 back p f = rw (p, to_z-of_z f)
 
--- a word's signed value, widened
-pub word_fits : (x : ℕ) → SFits w64 (signed 32 x)
-word_fits x = sfits_widen {w = w32} {w' = w64} tt (signed_fits w32 x)
-
-pub widened : {r : ℤ} (x : ℕ) → r ≡ signed 32 x → to_z w64 (of_z w64 (to_z w32 (of_z w32 r))) ≡ signed 32 x
-widened x p = back {w = w64} (back {w = w32} p (signed_fits w32 x)) (word_fits x)
-
--- the sum by which the code reads a register whose top bit is set
-pub shifted : (x : ℕ) → 2 ^ 63 ≤ x → x < 2 ^ 64 → to_z w64 (x - 2 ^ 63) +ℤ negsuc (2 ^ 63 - 1) ≡ to_z w64 x
-shifted x h f =
-    ap (λ (z : ℤ). z +ℤ negsuc (2 ^ 63 - 1)) (to_z_pos w64 {n = x - 2 ^ 63} (omega arith))
-    ∙ simp (lt-ltb (x - 2 ^ 63) (2 ^ 63) (omega arith), le-ltb x (2 ^ 63) h) (ap negsuc (omega arith))
-
--- a number that is not negative is its own bits
-pub nonneg : (z : ℤ) → SFits w64 z → le_z (pos 0) z ≡ true → T (non_neg z) × Fits w64 (nat_abs z) × (nat_abs z ≡ cut 64 z)
-nonneg (pos n) f e = let h : n < 2 ^ 63 = f.sfits in (tt, record { fits = omega arith }, of_z_cut w64 (pos n) f)
-nonneg (negsuc n) f e = absurd (subst T (sym e) tt)
-
-never : (n : ℕ) → leb 0 n ≡ false → ⊥
-never n e = let q : n < 0 = leb-false 0 n e in omega arith
-
--- a negative number plus 2 ^ 63
-pub raised : (z : ℤ) → SFits w64 z → le_z (pos 0) z ≡ false → (z -ℤ negsuc (2 ^ 63 - 1) ≡ pos (cut 64 z - 2 ^ 63)) × (2 ^ 63 ≤ cut 64 z) × (cut 64 z < 2 ^ 64)
-raised (pos n) f e = absurd (never n e)
-raised (negsuc n) f e =
-    let h : n < 2 ^ 63 = f.sfits in
-    (simp (le-ltb (2 ^ 63) (suc n) (omega arith)) (ap pos (omega arith)), omega arith, omega arith)
-
 -- a shift to the right keeps a number in range
 pub shr_fits : (w : Width) (x : ℤ) (m : ℕ) → SFits w x → SFits w (shr_z x m)
 shr_fits w x m f = record { sfits = omega (arith, f.sfits, mag_shr x m) }
@@ -105,7 +77,3 @@ cut_sub k a (suc b) h = by (ltb a (suc b)) refl
         let l : suc b ≤ a = ltb-false a (suc b) q in
         let e : a + (2 ^ k - suc b) ≡ a - suc b + 2 ^ k = omega arith in
         sym (ap (λ (i : ℕ). i % 2 ^ k) e ∙ add-mod_right (a - suc b) (2 ^ k))
-
--- the difference that wraps: r is the number to which b is added to come to a
-pub difference : (r a b : ℕ) → r < 2 ^ 64 → a < 2 ^ 64 → b < 2 ^ 64 → (r + b) % 2 ^ 64 ≡ a → r ≡ cut 64 (pos a -ℤ pos b)
-difference r a b hr ha hb e = let h : b ≤ 2 ^ 64 = omega arith in rw (cut_sub 64 a b h) (omega arith)

@@ -9,33 +9,28 @@ pub fn low_bits(x: u64, k: u64) -> u64
     requires { k ≤ 64 }
     ensures { result ≡ low k x }
 {
-    if k == 0 {
-        return 0;
-    }
-    let s = 64 - k;
-    x << s >> s
+    if k == 0 { 0 } else { x << (64 - k) >> (64 - k) }
+}
+
+// The low word.
+pub fn low_word(x: u64) -> u32
+    ensures { result ≡ low 32 x }
+{
+    (x % 0x1_0000_0000) as u32
 }
 
 // The register's number, read as signed.
 pub fn as_signed(x: u64) -> i64
     ensures { result ≡ signed 64 x }
 {
-    if x < 0x8000_0000_0000_0000 {
-        x as i64
-    } else {
-        (x - 0x8000_0000_0000_0000) as i64 + (-9223372036854775808)
-    }
+    x.cast_signed()
 }
 
 // The register that holds a signed number.
 pub fn as_bits(z: i64) -> u64
     ensures { result ≡ cut 64 z }
 {
-    if z >= 0 {
-        z as u64
-    } else {
-        (z - (-9223372036854775808)) as u64 + 0x8000_0000_0000_0000
-    }
+    z.cast_unsigned()
 }
 
 // The low k bits with their sign: pushed to the top, and brought back by a shift that keeps the sign.
@@ -51,20 +46,20 @@ pub fn sign_extend(x: u64, k: u64) -> u64
 pub fn as_word(x: u64) -> i32
     ensures { result ≡ signed 32 x }
 {
-    as_signed(sign_extend(x, 32)) as i32
+    low_word(x).cast_signed()
 }
 
 // The sums of registers and of addresses: every wrapping sum of the emulator is one of these two.
 pub fn add_d(rj: u64, rk: u64) -> u64
     ensures { result ≡ add_d rj rk }
 {
-    std::num::wrapping_add_u64(rj, rk)
+    rj.wrapping_add(rk)
 }
 
 pub fn sub_d(rj: u64, rk: u64) -> u64
     ensures { result ≡ sub_d rj rk }
 {
-    std::num::wrapping_sub_u64(rj, rk)
+    rj.wrapping_sub(rk)
 }
 
 // The signed comparison.

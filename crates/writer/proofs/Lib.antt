@@ -1,1 +1,1 @@
-pub mod EachWord
+pub mod Words

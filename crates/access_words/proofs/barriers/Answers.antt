@@ -14,4 +14,4 @@ returns-in-28901 c = rw c.of_i15-o.ensures (leaf c.ranges.word 15 c.in-28901.is 
 
 pub returns-in_default : goal.returns-in_default
 unfolding table
-returns-in_default c = rest c.ranges.word 22 15 c.requires c.in_default.in_default-own.rest tt
+returns-in_default c = rest c.ranges.word 22 15 c.requires (search rules) tt

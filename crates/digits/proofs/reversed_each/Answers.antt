@@ -1,6 +1,5 @@
 -- `digits::reversed_each` meets its contract. The invariant: r has the k lowest parts.
-use mathlib.Core.Path.{◌≡◌, refl, ap, ◌∙◌}
-use Prim.Native.Nat.{ℕ}
+use mathlib.Core.Path.{refl}
 use native.Mathlib.Omega.{arith}
 use Rattle.digits.specs.Reverse.{reverse_each}
 use Rattle.digits.proofs.Groups.{part_in, part_fits}
@@ -21,9 +20,3 @@ loop-k-preserved c =
     let a = c.args in
     let l = c.loop-k in
     (omega arith, part_in a.bits a.groups a.parts a.x l.k c.loop-k-test.true c.requires.3 l.invariant.1 c.reversed.ensures)
-
-pub returns : goal.returns
-returns c =
-    let a = c.args in
-    let e : c.loop-k.k ≡ c.args.parts = omega arith in
-    c.loop-k.invariant.1 ∙ ap (λ (i : ℕ). reverse_each a.bits a.groups i a.x) e

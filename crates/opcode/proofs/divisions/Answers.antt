@@ -1,4 +1,5 @@
 -- `opcode::divisions` meets its contract: a line for each arm, and the last one by a law over the table.
+use borrow.Author.Rules.{rules}
 use Rattle.opcode.specs.Families.{table}
 use Rattle.opcode.proofs.Narrow.{leaf, rest}
 use Rattle.opcode.proofs.divisions.Goals as goal
@@ -37,4 +38,4 @@ returns-in-71 c = leaf c.ranges.word 15 c.in-71.is tt
 
 pub returns-in_default : goal.returns-in_default
 unfolding table
-returns-in_default c = rest c.ranges.word 18 15 c.requires c.in_default.in_default-own.rest tt
+returns-in_default c = rest c.ranges.word 18 15 c.requires (search rules) tt

@@ -6,8 +6,8 @@ use Rattle.register_words.proofs.alsl_doubles.Goals as goal
 
 pub returns-in-22 : goal.returns-in-22
 unfolding table
-returns-in-22 c = rw c.of_r3i2.ensures (leaf c.ranges.word 17 c.in-22.is tt)
+returns-in-22 c = rw c.of_r3i.ensures (leaf c.ranges.word 17 c.in-22.is tt)
 
 pub returns-in_default : goal.returns-in_default
 unfolding table
-returns-in_default c = rest c.ranges.word 18 17 c.requires c.in_default.in_default-own.rest tt
+returns-in_default c = rest c.ranges.word 18 17 c.requires (search rules) tt

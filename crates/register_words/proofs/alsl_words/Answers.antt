@@ -6,12 +6,12 @@ use Rattle.register_words.proofs.alsl_words.Goals as goal
 
 pub returns-in-2 : goal.returns-in-2
 unfolding table
-returns-in-2 c = rw c.of_r3i2-o.ensures (leaf c.ranges.word 17 c.in-2.is tt)
+returns-in-2 c = rw c.of_r3i-o.ensures (leaf c.ranges.word 17 c.in-2.is tt)
 
 pub returns-in-3 : goal.returns-in-3
 unfolding table
-returns-in-3 c = rw c.of_r3i2-o.ensures (leaf c.ranges.word 17 c.in-3.is tt)
+returns-in-3 c = rw c.of_r3i-o.ensures (leaf c.ranges.word 17 c.in-3.is tt)
 
 pub returns-in_default : goal.returns-in_default
 unfolding table
-returns-in_default c = rest c.ranges.word 18 17 c.requires c.in_default.in_default-own.rest tt
+returns-in_default c = rest c.ranges.word 18 17 c.requires (search rules) tt

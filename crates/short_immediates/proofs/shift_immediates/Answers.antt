@@ -23,20 +23,20 @@ returns-in-76 c = c.word_shift-in-76.ensures ∙ bit c.ranges.word 15 c.in-76.is
 
 pub returns-in-65 : goal.returns-in-65
 unfolding table
-returns-in-65 c = c.double_shift.ensures ∙ leaf c.ranges.word 16 c.in-65.is tt
+returns-in-65 c = rw c.of_r2i.ensures (leaf c.ranges.word 16 c.in-65.is tt)
 
 pub returns-in-69 : goal.returns-in-69
 unfolding table
-returns-in-69 c = c.double_shift-in-69.ensures ∙ leaf c.ranges.word 16 c.in-69.is tt
+returns-in-69 c = rw c.of_r2i-in-69.ensures (leaf c.ranges.word 16 c.in-69.is tt)
 
 pub returns-in-73 : goal.returns-in-73
 unfolding table
-returns-in-73 c = c.double_shift-in-73.ensures ∙ leaf c.ranges.word 16 c.in-73.is tt
+returns-in-73 c = rw c.of_r2i-in-73.ensures (leaf c.ranges.word 16 c.in-73.is tt)
 
 pub returns-in-77 : goal.returns-in-77
 unfolding table
-returns-in-77 c = c.double_shift-in-77.ensures ∙ leaf c.ranges.word 16 c.in-77.is tt
+returns-in-77 c = rw c.of_r2i-in-77.ensures (leaf c.ranges.word 16 c.in-77.is tt)
 
 pub returns-in_default : goal.returns-in_default
 unfolding table
-returns-in_default c = rest c.ranges.word 21 16 c.requires c.in_default.in_default-own.rest tt
+returns-in_default c = rest c.ranges.word 21 16 c.requires (search rules) tt

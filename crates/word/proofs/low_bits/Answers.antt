@@ -3,8 +3,5 @@ use Rattle.std.proofs.Common.{◌-◌, arith}
 use Rattle.word.proofs.Shifts.{shl_back}
 use Rattle.word.proofs.low_bits.Goals as goal
 
-pub returns-then-k-eq0 : goal.returns-then-k-eq0
-returns-then-k-eq0 c = rw c.if-k-eq0.true (omega arith)
-
-pub returns : goal.returns
-returns c = shl_back c.args.x c.args.k (64 - c.args.k) 64 (omega arith)
+pub returns-else-k-eq0 : goal.returns-else-k-eq0
+returns-else-k-eq0 c = shl_back c.args.x c.args.k (64 - c.args.k) 64 (omega arith)

@@ -1,30 +1,19 @@
 -- `writer::put_note` meets its contract.
-use mathlib.Core.Path.{refl}
-use mathlib.Core.List.{◌∷◌}
-use native.Mathlib.Omega.{arith}
+use Rattle.std.proofs.Common.{◌∷◌}
 use Rattle.byte_order.specs.Bytes.{bytes_le}
-use Rattle.byte_order.proofs.Stands.{length_bytes}
-use Rattle.file.proofs.Lengths.{part_absent, part_present, length_present}
-use Rattle.byte_order.proofs.Joined.{joined}
+use Rattle.file.proofs.Lengths.{part_present}
+use Rattle.page.proofs.Behind.{first_room, next_room, both}
 use Rattle.writer.proofs.put_note.Goals as goal
 
--- there is room for the note's 17 bytes
-pub put_number-second-requires : goal.put_number-second-requires
-put_number-second-requires c = omega (arith, c.requires, length_present c.args.session _ _ c.in-Present.is)
+pub put_number-requires : goal.put_number-requires
+put_number-requires c =
+    let a = c.args in
+    first_room (4 ∷ bytes_le 8 _) (bytes_le 8 _) a.page.now (rw (part_present a.session _ c.in-Some.is) at c.requires)
 
 pub put_word-requires : goal.put_word-requires
-put_word-requires c = omega (arith, c.requires, length_present c.args.session _ _ c.in-Present.is)
-
-pub returns-in-Absent : goal.returns-in-Absent
-returns-in-Absent c = rw (part_absent c.args.session c.in-Absent.is) (omega arith, refl)
-
-pub returns-in-Present : goal.returns-in-Present
-returns-in-Present c =
+put_word-requires c =
     let a = c.args in
-    let e = c.in-Present.is in
-    let n = c.put_number-second.ensures in
-    let w = c.put_word.ensures in (
-      omega (arith, n.0, w.0, length_present a.session _ _ e),
-      rw (part_present a.session _ _ e)
-          (joined (4 ∷ bytes_le 8 _) (bytes_le 8 _) a.buffer.now _ _ a.at _ (rw length_bytes n.0) n.1 w.1),
-    )
+    next_room (4 ∷ bytes_le 8 _) (bytes_le 8 _) a.page.now _ (rw (part_present a.session _ c.in-Some.is) at c.requires) c.put_number.ensures
+
+pub returns-in-Some : goal.returns-in-Some
+returns-in-Some c = rw (part_present c.args.session _ c.in-Some.is) (both _ _ _ _ _ c.put_number.ensures c.put_word.ensures)

@@ -1,10 +1,10 @@
 -- `writer::put_word` meets its contract.
-use mathlib.Core.Path.{◌∙◌}
-use native.Mathlib.Omega.{arith}
-use Rattle.byte_order.proofs.Stands.{put_sets}
+use Rattle.byte_order.proofs.Stands.{length_bytes}
+use Rattle.writer.proofs.Words.{eight}
 use Rattle.writer.proofs.put_word.Goals as goal
 
+pub put-requires : goal.put-requires
+put-requires c = rw c.to_le_bytes.ensures (rw (length_bytes 8 c.args.value) at c.requires)
+
 pub returns : goal.returns
-returns c =
-    let a = c.args in
-    (omega arith, c.put8.ensures ∙ put_sets 8 a.at a.value a.buffer.now)
+returns c = rw (c.to_le_bytes.ensures, eight c.args.value) at c.put.ensures

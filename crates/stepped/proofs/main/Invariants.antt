@@ -1,5 +1,0 @@
--- The turns left fall.
-use Rattle.stepped.proofs.main.Given as goal
-
-abbrev pub decreases-loop-turns : goal.decreases-loop-turns
-decreases-loop-turns l = l.turns
