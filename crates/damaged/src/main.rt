@@ -21,7 +21,6 @@
 mod given;
 mod made;
 
-use file::{FileRefusal, Reading};
 use given::{Given, LINE, ROOM};
 use made::Damage;
 use report::case::Case;
@@ -67,16 +66,14 @@ fn compare_numbers<P: Print>(
 }
 
 fn read<P: Print>(case: &mut Case<'_, P>, given: &Given, file: &[u8]) -> io::Result<()> {
-    let (refusal, offset, found) = match reader::read(file) {
-        Ok(Reading { session, offset }) => (0, offset, session),
-        Err(FileRefusal { refusal, offset }) => (u64::from(refusal), offset, Session::fresh()),
-    };
+    let read = reader::read(file);
     let wanted = match given.refusal {
         0 => made::session(file, 0),
         _ => made::nothing(),
     };
-    compare_numbers(case, given, refusal, "offset", offset)?;
-    compare_session(case, found, wanted)
+    let offset = file::offset_read(read);
+    compare_numbers(case, given, file::number_read(read), "offset", offset)?;
+    compare_session(case, file::session_read(read), wanted)
 }
 
 // Every byte of the buffer is compared, also past the part that the call was lent.
@@ -90,11 +87,9 @@ fn write<P: Print>(
     let Some(lent) = buffer.get_mut(..damage.place) else {
         return case.no_case();
     };
-    let (refusal, len) = match writer::write(damage.session(), lent) {
-        Ok(len) => (0, len),
-        Err(refusal) => (u64::from(refusal), 0),
-    };
-    compare_numbers(case, given, refusal, "length", len)?;
+    let written = writer::write(damage.session(), lent);
+    let length = file::length_written(written);
+    compare_numbers(case, given, refuse::number(written), "length", length)?;
     case.bytes("buffer byte", buffer, |i| {
         made::written_byte(given.has_note, given.offset, i)
     })

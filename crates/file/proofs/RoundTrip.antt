@@ -1,5 +1,5 @@
 -- The two halves of the round trip, and that they make the promises.
-use mathlib.Core.Path.{◌≡◌, refl, ap}
+use mathlib.Core.Path.{◌≡◌, refl, ap, ◌∙◌}
 use mathlib.Core.Bool.{false}
 use mathlib.Core.List.{List, ◌++◌}
 use Prim.Native.Nat.{ℕ, ◌≤◌}
@@ -15,8 +15,8 @@ use Rattle.refuse.proofs.Accepted.{Clear, all_clear}
 use Rattle.file.specs.declared.FileRefusal.{FileRefusal}
 use Rattle.file.specs.declared.Reading.{Reading}
 use Rattle.session.specs.Fit.{Fit}
-use Rattle.file.specs.Writing.{file_of, buffer_due, write_tests, write_judged, host_write_of}
-use Rattle.file.specs.Reading.{host_read_of, number_read}
+use Rattle.file.specs.Writing.{file_of, buffer_due, write_tests, write_judged, length_written, host_write_of}
+use Rattle.file.specs.Reading.{host_read_of, number_read, offset_read, session_of_read, session_read}
 use Rattle.file.specs.Promises.{ReadsBack, WritesBack, Writes, Reads, WrittenReadsBack, ReadWritesBack}
 use Rattle.file.proofs.There.{file_read}
 use Rattle.file.proofs.Back.{Kept, kept}
@@ -60,6 +60,7 @@ writes s buffer r after h e g = record {
   reply = e;
   bytes = g;
   number = ap (λ (x : Result ℕ Refusal). refused_of x) e;
+  length = ap length_written e;
   back = rw (e, g) (written_reads_back s h buffer);
 }
 
@@ -69,10 +70,20 @@ pub by_verdict : (s : Session) (buffer : List ℕ) (v : Result (Unit {0}) Refusa
 unfolding host_write_of
 by_verdict s buffer v r after h q e g = writes s buffer r after h (rw q e) (rw q g)
 
+-- the session that a read's reply stands for is that of the file
+said : (f : List ℕ) → session_of_read (host_read_of f) ≡ session_read f
+said f = go (host_read_of f) refl
+  where
+    go : (r : Result Reading FileRefusal) → host_read_of f ≡ r → session_of_read (host_read_of f) ≡ session_read f
+    go (Ok x) e = rw e refl
+    go (Err x) e = rw e refl
+
 pub reads : (f : List ℕ) (r : Result Reading FileRefusal) → AreBytes f → r ≡ host_read_of f → Reads f r
 reads f r h e = record {
   reply = e;
   number = ap (λ (x : Result Reading FileRefusal). number_read x) e;
+  session = ap session_of_read e ∙ said f;
+  offset = ap offset_read e;
   whole = rw e (whole (host_read_of f) (kept f h));
   back = rw e (read_writes_back f h);
 }

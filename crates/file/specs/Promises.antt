@@ -9,8 +9,8 @@ use Rattle.refuse.specs.Refusals.{refused_of}
 use Rattle.file.specs.declared.FileRefusal.{FileRefusal}
 use Rattle.file.specs.declared.Reading.{Reading}
 use Rattle.session.specs.Fit.{Fit}
-use Rattle.file.specs.Writing.{host_write_of}
-use Rattle.file.specs.Reading.{host_read_of, number_read}
+use Rattle.file.specs.Writing.{length_written, host_write_of}
+use Rattle.file.specs.Reading.{host_read_of, number_read, offset_read, session_of_read, session_read}
 
 -- of a write that returned r and left `after` in the buffer: if it was accepted, the bytes that it wrote read as s
 abbrev pub ReadsBack : Session → Result ℕ Refusal → List ℕ → Type 0
@@ -30,6 +30,8 @@ pub record Writes (s : Session) (buffer : List ℕ) (r : Result ℕ Refusal) (af
   pub bytes : after ≡ (host_write_of s buffer).1
   -- by 01's numbers: the refusal's, or 0
   pub number : refused_of r ≡ refused_of (host_write_of s buffer).0
+  -- the length, 0 if refused
+  pub length : length_written r ≡ length_written (host_write_of s buffer).0
   pub back : ReadsBack s r after
 
 -- The promise of `reader::read`: of the file and its reply r
@@ -38,6 +40,9 @@ pub record Reads (f : List ℕ) (r : Result Reading FileRefusal) : Type 0 where
   pub reply : r ≡ host_read_of f
   -- by 01's numbers: the refusal's, or 0
   pub number : number_read r ≡ number_read (host_read_of f)
+  -- the session, the fresh one if refused, and the offset
+  pub session : session_of_read r ≡ session_read f
+  pub offset : offset_read r ≡ offset_read (host_read_of f)
   -- "An accepted read returns the file's length as its offset."
   pub whole : IfOk r (λ x. x.offset ≡ length f)
   pub back : WritesBack f r

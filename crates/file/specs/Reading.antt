@@ -1,7 +1,7 @@
 -- 01: "Reading meets 11, 12, 13 from left to right." "An accepted read returns the file's length as its offset. A refused read returns the
 -- fresh session (all zero, no note) and an offset: of the kind byte for 11 or for a cut body, the file's length where a kind is due, the
 -- first extra byte for 13."
-use Rattle.std.specs.Prelude.{ℕ, ◌+◌, Bool, cond, not, ◌&&◌, List, [], ◌∷◌, eqb, ltb, leb, length, get_or, Result, Ok, Err}
+use Rattle.std.specs.Prelude.{ℕ, ◌+◌, ◌≡◌, Bool, cond, not, ◌&&◌, List, [], ◌∷◌, eqb, ltb, leb, length, get_or, Result, Ok, Err}
 use Rattle.session.specs.declared.Session.{Session}
 use Rattle.session.specs.declared.Refusal.{Refusal}
 use Rattle.session.specs.declared.Refusal.TheVariants.{FileKind, FileCut, FileExtra}
@@ -44,6 +44,10 @@ passed r f at = r.optional && not (stands r.kind f at)
 abbrev pub row_of : Row → List ℕ → Cursor → Result Cursor FileRefusal
 row_of r f c = cond (passed r f c.at) (Ok c) (and_then (taken_of r f c.session) (due_of r.kind r.len f c.at))
 
+-- a reader's cursor c went on to d by a row, or the reading was refused
+abbrev pub Takes : Row → List ℕ → Cursor → Result (Unit {0}) FileRefusal → Cursor → Type 0
+Takes r f c reply d = row_of r f c ≡ and_then (λ (done : Unit {0}). Ok d) reply
+
 abbrev pub rows_of : List Row → List ℕ → Result Cursor FileRefusal → Result Cursor FileRefusal
 rows_of [] f c = c
 rows_of (r ∷ rs) f c = rows_of rs f (and_then (row_of r f) c)
@@ -71,7 +75,11 @@ abbrev pub offset_read : Result Reading FileRefusal → ℕ
 offset_read (Ok r) = r.offset
 offset_read (Err e) = e.offset
 
--- "A refused read returns the fresh session (all zero, no note)"
+abbrev pub session_of_read : Result Reading FileRefusal → Session
+session_of_read (Ok r) = r.session
+session_of_read (Err e) = fresh_of
+
+-- "A refused read returns the fresh session (all zero, no note)": of the file, which `Reads` ties to what a read returned
 abbrev pub session_read : List ℕ → Session
 session_read f = go (host_read_of f)
   where

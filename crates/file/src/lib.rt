@@ -2,6 +2,10 @@
 
 #![tactic(auto)]
 
+ghost use Rattle.std.specs.Prelude.{◌≡◌};
+ghost use Rattle.file.specs.Reading.{number_read, offset_read, session_of_read};
+ghost use Rattle.file.specs.Writing.{length_written};
+
 use session::{Refusal, Session};
 
 // What an accepted read returns: the session, and the file's length as the offset.
@@ -11,7 +15,7 @@ pub struct Reading {
     pub offset: usize,
 }
 
-// What a refused read returns: the offset is that of what was refused. The session is then fresh, so it has none.
+// What a refused read returns: the offset is that of what was refused. The session is then fresh: `session_read` gives it.
 #[derive(Clone, Copy)]
 pub struct FileRefusal {
     pub refusal: Refusal,
@@ -23,4 +27,40 @@ pub struct FileRefusal {
 pub struct Cursor {
     pub at: usize,
     pub session: Session,
+}
+
+// What a read and a write return by 01's words, whether they are refused or not. A refused read returns the fresh session.
+pub fn session_read(read: Result<Reading, FileRefusal>) -> Session
+    ensures { result ≡ session_of_read read }
+{
+    match read {
+        Ok(accepted) => accepted.session,
+        Err(_) => Session::fresh(),
+    }
+}
+
+// The refusal's number, or 0.
+pub fn number_read(read: Result<Reading, FileRefusal>) -> u64
+    ensures { result ≡ number_read read }
+{
+    match read {
+        Ok(_) => 0,
+        Err(refused) => u64::from(refused.refusal),
+    }
+}
+
+pub fn offset_read(read: Result<Reading, FileRefusal>) -> usize
+    ensures { result ≡ offset_read read }
+{
+    match read {
+        Ok(accepted) => accepted.offset,
+        Err(refused) => refused.offset,
+    }
+}
+
+// A refused write returns length 0.
+pub fn length_written(written: Result<usize, Refusal>) -> usize
+    ensures { result ≡ length_written written }
+{
+    written.unwrap_or(0)
 }

@@ -5,7 +5,7 @@
 ghost use Rattle.std.specs.Prelude.{◌≡◌, ◌∷◌, ◌+◌, ◌≤◌, length, IfOk};
 ghost use Rattle.file.specs.Format.{numbers_at, pc_row, registers_row, total_row, note_row, end_row};
 ghost use Rattle.file.specs.Promises.{Reads};
-ghost use Rattle.file.specs.Reading.{refused, due_of, stands, row_of, ended_of, parsed_of};
+ghost use Rattle.file.specs.Reading.{refused, due_of, stands, Takes, ended_of, parsed_of};
 
 use file::{Cursor, FileRefusal, Reading};
 use place::GuestAddr;
@@ -36,17 +36,14 @@ fn due(file: &[u8], at: usize, kind: u8, n: usize) -> Result<usize, FileRefusal>
 }
 
 // This and the next ones differ in their length and their field: one function over a closure that sets the field would be no shorter.
-fn take_pc(file: &[u8], c: Cursor) -> Result<Cursor, FileRefusal>
-    ensures { result ≡ row_of pc_row file.now c }
+// The cursor goes on in its place: handed on by value, each kind would copy the whole session.
+fn take_pc(file: &[u8], c: &mut Cursor) -> Result<(), FileRefusal>
+    ensures { Takes pc_row file.now c.old result c.new }
 {
     let body = due(file, c.at, 0x01, 8)?;
-    Ok(Cursor {
-        at: body + 8,
-        session: Session {
-            pc: GuestAddr(byte_order::get::<8>(file, body)),
-            ..c.session
-        },
-    })
+    c.session.pc = GuestAddr(byte_order::get::<8>(file, body));
+    c.at = body + 8;
+    Ok(())
 }
 
 // By index: tried with `iter_mut().enumerate()`, the proof does not close, since the check then knows nothing of the array.
@@ -61,30 +58,22 @@ fn registers(file: &[u8], at: usize) -> [u64; 32]
     regs
 }
 
-fn take_registers(file: &[u8], c: Cursor) -> Result<Cursor, FileRefusal>
-    ensures { result ≡ row_of registers_row file.now c }
+fn take_registers(file: &[u8], c: &mut Cursor) -> Result<(), FileRefusal>
+    ensures { Takes registers_row file.now c.old result c.new }
 {
     let body = due(file, c.at, 0x02, 248)?;
-    Ok(Cursor {
-        at: body + 248,
-        session: Session {
-            regs: registers(file, body),
-            ..c.session
-        },
-    })
+    c.session.regs = registers(file, body);
+    c.at = body + 248;
+    Ok(())
 }
 
-fn take_total(file: &[u8], c: Cursor) -> Result<Cursor, FileRefusal>
-    ensures { result ≡ row_of total_row file.now c }
+fn take_total(file: &[u8], c: &mut Cursor) -> Result<(), FileRefusal>
+    ensures { Takes total_row file.now c.old result c.new }
 {
     let body = due(file, c.at, 0x03, 8)?;
-    Ok(Cursor {
-        at: body + 8,
-        session: Session {
-            total: byte_order::get::<8>(file, body),
-            ..c.session
-        },
-    })
+    c.session.total = byte_order::get::<8>(file, body);
+    c.at = body + 8;
+    Ok(())
 }
 
 #[tactic(auto, unfolding(file::specs::Reading::stands))]
@@ -94,46 +83,42 @@ fn is_kind(file: &[u8], at: usize, kind: u8) -> bool
     file.get(at) == Some(&kind)
 }
 
-fn take_note(file: &[u8], c: Cursor) -> Result<Cursor, FileRefusal>
-    ensures { result ≡ row_of note_row file.now c }
+fn take_note(file: &[u8], c: &mut Cursor) -> Result<(), FileRefusal>
+    ensures { Takes note_row file.now c.old result c.new }
 {
     if !is_kind(file, c.at, 0x04) {
-        return Ok(c);
+        return Ok(());
     }
     let body = due(file, c.at, 0x04, 16)?;
-    let note = Note {
+    c.session.note = Some(Note {
         low: byte_order::get::<8>(file, body),
         high: byte_order::get::<8>(file, body + 8),
-    };
-    Ok(Cursor {
-        at: body + 16,
-        session: Session {
-            note: Some(note),
-            ..c.session
-        },
-    })
+    });
+    c.at = body + 16;
+    Ok(())
 }
 
-fn take_end(file: &[u8], c: Cursor) -> Result<Cursor, FileRefusal>
-    ensures { result ≡ row_of end_row file.now c }
+fn take_end(file: &[u8], c: &mut Cursor) -> Result<(), FileRefusal>
+    ensures { Takes end_row file.now c.old result c.new }
 {
-    let end = due(file, c.at, 0x05, 0)?;
-    Ok(Cursor { at: end, ..c })
+    c.at = due(file, c.at, 0x05, 0)?;
+    Ok(())
 }
 
 #[tactic(auto, unfolding(file::specs::Reading::parsed_of))]
 fn parse(file: &[u8]) -> Result<Cursor, FileRefusal>
     ensures { result ≡ parsed_of file.now }
 {
-    let start = Cursor {
+    let mut c = Cursor {
         at: 0,
         session: Session::fresh(),
     };
-    let pc = take_pc(file, start)?;
-    let registers = take_registers(file, pc)?;
-    let total = take_total(file, registers)?;
-    let note = take_note(file, total)?;
-    take_end(file, note)
+    take_pc(file, &mut c)?;
+    take_registers(file, &mut c)?;
+    take_total(file, &mut c)?;
+    take_note(file, &mut c)?;
+    take_end(file, &mut c)?;
+    Ok(c)
 }
 
 // Nothing may stand behind the end mark.

@@ -4,10 +4,11 @@ use Rattle.session.specs.declared.Note.{Note}
 use Rattle.session.specs.declared.Session.{Session}
 use Rattle.session.specs.declared.Reply.{Reply}
 use Rattle.session.specs.declared.Refusal.{Refusal}
-use Rattle.session.specs.Session.{fresh_of, note}
-use Rattle.session.specs.Numbers.{number_of, numbers_of}
+use Rattle.session.specs.Session.{note}
+use Rattle.session.specs.Numbers.{numbers_of}
 use Rattle.refuse.specs.Refusals.{refused_of}
 use Rattle.file.specs.Writing.{length_written}
+use Rattle.file.specs.Reading.{number_read, offset_read, session_of_read}
 use Rattle.file.specs.declared.FileRefusal.{FileRefusal}
 use Rattle.file.specs.declared.Reading.{Reading}
 use Rattle.records.specs.declared.SessionRecord.{SessionRecord}
@@ -60,5 +61,4 @@ written_of w = record { refused = refused_of w; length = length_written w }
 
 -- a refused read has the fresh session
 abbrev pub reading_of : Result Reading FileRefusal → ReadingRecord
-reading_of (Ok r) = record { session = record_of r.session; refused = 0; offset = r.offset }
-reading_of (Err e) = record { session = record_of fresh_of; refused = number_of e.refusal; offset = e.offset }
+reading_of r = record { session = record_of (session_of_read r); refused = number_read r; offset = offset_read r }

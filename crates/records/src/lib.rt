@@ -124,7 +124,7 @@ impl From<Result<usize, Refusal>> for WrittenRecord {
     fn from(written: Result<usize, Refusal>) -> WrittenRecord {
         WrittenRecord {
             refused: refuse::number(written),
-            length: written.unwrap_or(0),
+            length: file::length_written(written),
         }
     }
 }
@@ -134,17 +134,10 @@ impl From<Result<Reading, FileRefusal>> for ReadingRecord {
     ghost from_gives = { λ reading packed. packed ≡ reading_of reading };
 
     fn from(reading: Result<Reading, FileRefusal>) -> ReadingRecord {
-        match reading {
-            Ok(read) => ReadingRecord {
-                session: SessionRecord::from(read.session),
-                refused: 0,
-                offset: read.offset,
-            },
-            Err(refused) => ReadingRecord {
-                session: SessionRecord::from(Session::fresh()),
-                refused: u64::from(refused.refusal),
-                offset: refused.offset,
-            },
+        ReadingRecord {
+            session: SessionRecord::from(file::session_read(reading)),
+            refused: file::number_read(reading),
+            offset: file::offset_read(reading),
         }
     }
 }

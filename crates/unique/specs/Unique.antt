@@ -43,7 +43,7 @@ DecodeUnique = (word : ℕ) → AtMostOne (λ (d : Option Instruction). Decodes 
 abbrev pub WriteUnique : Type 0
 WriteUnique = (s : Session) (buffer : List ℕ) → AtMostOne (λ (x : Result ℕ Refusal × List ℕ). Writes s buffer x.0 x.1)
 
--- read: verdict, session and offset
+-- read: session and offset, or refusal and offset
 abbrev pub ReadUnique : Type 0
 ReadUnique = (f : List ℕ) → AtMostOne (λ (r : Result Reading FileRefusal). Reads f r)
 
