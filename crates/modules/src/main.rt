@@ -72,8 +72,10 @@ impl Run {
     // Byte i of the arena after the run: in the window as the file has it, beside it the pattern as before.
     fn wanted_byte(&self, window: &[u8], i: usize) -> u8 {
         let in_window = i.checked_sub(self.way.start);
-        let byte = in_window.and_then(|at| window.get(at)).copied();
-        byte.unwrap_or(report::pattern(i))
+        match in_window.and_then(|at| window.get(at)) {
+            Some(byte) => *byte,
+            None => report::pattern(i),
+        }
     }
 
     // Every byte of the arena, outside the window too. The first that differs is printed.

@@ -1,5 +1,5 @@
 // What a line gives: the session and the code before the run, and the session and the bytes after it.
-ghost use Rattle.std.specs.Prelude.{◌≤◌};
+ghost use Rattle.std.specs.Prelude.{◌<◌, ◌≤◌};
 
 use place::GuestAddr;
 use report::part::Part;
@@ -13,10 +13,8 @@ pub const START: usize = 37;
 
 pub const AFTER: usize = 29;
 
-// The most code, and the largest window.
+// The most code.
 pub const CODE: usize = 65536;
-
-const WINDOW: usize = 65536;
 
 // The most words and bytes that a line gives.
 const WORDS: usize = 64;
@@ -70,12 +68,12 @@ pub struct Given<'a> {
     pub registers_after: [u64; 32],
     pub arena_after: Part<'a>,
     ghost code_fits: { code_length ≤ 65536 },
-    ghost window_fits: { window_length ≤ 65536 },
+    ghost five_digits: { window_length < 1048576 },
 }
 
 impl<'a> Given<'a> {
-    // Nothing where the line is none: a column has what does not belong there, the line needs more code or a larger window than there
-    // is, or words lie outside the code or bytes outside the window.
+    // Nothing where the line is none: a column has what does not belong there, the line needs more code than there is, or words lie
+    // outside the code or bytes outside the window. A window that is larger than the arena is found when the arena is lent.
     pub fn of(line: &'a [u8]) -> Option<Self> {
         let code_length = text::number(line, 18, 5) as usize;
         let words_at = text::number(line, 24, 5) as usize;
@@ -84,7 +82,7 @@ impl<'a> Given<'a> {
         let bytes_at = text::number(line, 1089, 5) as usize;
         let bytes = text::number(line, 1095, 3) as usize;
         let code = words <= WORDS && words_at + 4 * words <= code_length && code_length <= CODE;
-        let window = bytes <= BYTES && bytes_at + bytes <= window_length && window_length <= WINDOW;
+        let window = bytes <= BYTES && bytes_at + bytes <= window_length;
         if !code || !window || !text::has_columns(line, fits) {
             return None;
         }

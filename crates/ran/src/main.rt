@@ -56,30 +56,40 @@ fn compare<P: Print>(
     case.bytes("arena byte", arena, |i| given.arena_after.byte(i))
 }
 
-// Runs a line's program in as much code as the line says, with the words in their place, and in a window of the arena, of which it
-// lends as much as the line needs; then compares.
+// Runs a line's program in as much code as the line says, and in a window of the arena, of which it lends as much as the line needs.
+// Nothing where that is more than there is.
+fn run(given: &Given<'_>, code: &[u8; CODE], arena: &mut [u8; ARENA]) -> Option<Reply> {
+    let window = Window {
+        start: ArenaOffset(given::START),
+        len: given.window_length,
+    };
+    let end = given::START + given.window_length + given::AFTER;
+    let lent = arena.get_mut(..end)?;
+    Some(host::run(
+        &code[..given.code_length],
+        lent,
+        window,
+        given.session,
+        given.budget,
+    ))
+}
+
+// Runs a line's program with the words in their place, and compares. The words are taken back in any case: they may lie at an offset
+// that is no multiple of 4.
 fn hold<P: Print>(
     case: &mut Case<'_, P>,
     given: &Given<'_>,
     code: &mut [u8; CODE],
     arena: &mut [u8; ARENA],
 ) -> io::Result<()> {
-    let window = Window {
-        start: ArenaOffset(given::START),
-        len: given.window_length,
-    };
-    let end = given::START + given.window_length + given::AFTER;
     report::fill_with(arena, report::pattern);
     given.put_words(code);
-    let r = host::run(
-        &code[..given.code_length],
-        &mut arena[..end],
-        window,
-        given.session,
-        given.budget,
-    );
+    let reply = run(given, code, arena);
     given.take_words(code);
-    compare(case, given, r, arena)
+    match reply {
+        Some(reply) => compare(case, given, reply, arena),
+        None => case.no_case(),
+    }
 }
 
 // A proved loop has to end, and nothing says that the input does: so the lines are numbered up to a number that no run reaches.

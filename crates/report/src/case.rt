@@ -118,7 +118,10 @@ impl<'a, P: Print> Case<'a, P> {
         requires { F.IsAlwaysCallable wanted }
     {
         for (i, b) in found.iter().enumerate() {
-            self.one_of(what, i, u64::from(*b), u64::from(wanted(i)))?;
+            let wanted = wanted(i);
+            if *b != wanted {
+                self.one_of(what, i, u64::from(*b), u64::from(wanted))?;
+            }
         }
         Ok(())
     }

@@ -15,9 +15,9 @@ pub fn count_if(count: &mut u64, yes: bool)
 
 #[derive(Clone, Copy, Default)]
 pub struct Counts {
-    cases: u64,
-    refused: u64,
-    differ: u64,
+    pub cases: u64,
+    pub refused: u64,
+    pub differ: u64,
 }
 
 impl Counts {
