@@ -11,7 +11,6 @@ use report::counts;
 use report::lines::{Line, Lines};
 use report::mnemonics::{Mnemonic, Mnemonics};
 use std::io;
-use std::io::{Cursor, Write};
 
 // The length of a line, with its newline.
 const LINE: usize = 48;
@@ -20,9 +19,6 @@ const LINE: usize = 48;
 const NAME: usize = 17;
 
 const LETTERS: usize = 12;
-
-// More bytes than an instruction's text has. There is no heap in it: docs/TRUSTED.md says what the program reaches.
-const TEXT: usize = 128;
 
 // The words of the whole input, by the letters of their lines.
 #[derive(Clone, Copy, Default)]
@@ -83,15 +79,14 @@ fn named(line: &[u8], text: &[u8]) -> bool {
 }
 
 // Whether the decoder says what the line says. A letter that there is not agrees with nothing.
-fn agrees(line: &[u8]) -> io::Result<bool> {
+fn agrees(line: &[u8]) -> bool {
     let letter = text::byte(line, 0);
     let Some(instruction) = decoder::decode(text::half(line, 2)) else {
-        return Ok(matches!(letter, b'N' | b'H'));
+        return matches!(letter, b'N' | b'H');
     };
-    let same = DecodedRecord::from(instruction) == record_of(line);
-    let mut text = Cursor::new([0u8; TEXT]);
-    write!(text, "{}", names::Text(instruction))?;
-    Ok(letter == b'L' && same && named(line, text.get_ref()))
+    letter == b'L'
+        && DecodedRecord::from(instruction) == record_of(line)
+        && named(line, names::text(instruction).written())
 }
 
 // Counts one line.
@@ -107,7 +102,7 @@ fn count_line(
         text::part(line, NAME, LETTERS + 1),
         "words",
     )?;
-    let differs = !agrees(line)?;
+    let differs = !agrees(line);
     totals.count(text::byte(line, 0), differs);
     mnemonics.count(rt, line, differs)
 }

@@ -4,9 +4,12 @@
 
 mod mnemonics;
 
+ghost use Rattle.std.specs.Prelude.{◌≡◌, take};
+
 use alu::Immediate;
 use isa::{Config, FieldOperands, HintOperands, Instruction, Jump, Operands, Preload};
 use std::fmt;
+use std::fmt::Write;
 
 // How many values the signed fields have: si12, si14, offs16 and si16, si20, offs21, offs26.
 const SI12: u32 = 0x1000;
@@ -93,9 +96,9 @@ fn preload<W: fmt::Write>(f: &mut fmt::Formatter<W>, op: Preload, o: HintOperand
 
 // An instruction that is shown as text.
 #[derive(Clone, Copy)]
-pub struct Text(pub Instruction);
+pub struct Shown(pub Instruction);
 
-impl fmt::Display for Text {
+impl fmt::Display for Shown {
     fn fmt<W: fmt::Write>(&self, f: &mut fmt::Formatter<W>) -> fmt::Result {
         match self.0 {
             Instruction::Alu(op, o) => triple(f, mnemonics::alu(op), o),
@@ -150,4 +153,45 @@ impl fmt::Display for Text {
             Instruction::Config(Config::Cpucfg, o) => pair(f, "cpucfg", o),
         }
     }
+}
+
+// A line with room for the text of any instruction.
+#[derive(Clone, Copy)]
+pub struct Line {
+    pub bytes: [u8; 128],
+    pub len: usize,
+}
+
+impl Line {
+    pub fn empty() -> Line {
+        Line {
+            bytes: [0; 128],
+            len: 0,
+        }
+    }
+
+    // The bytes that were written.
+    pub fn written(&self) -> &[u8]
+        ensures { result.now ≡ take self.now.len self.now.bytes }
+    {
+        self.bytes.get(..self.len).unwrap_or(&self.bytes)
+    }
+}
+
+impl fmt::Write for Line {
+    // What there is no room for is left out.
+    fn write_str(&mut self, text: &str) -> fmt::Result {
+        let room = self.bytes.get_mut(self.len..).unwrap_or(&mut []);
+        let taken = text.len().min(room.len());
+        room[..taken].copy_from_slice(&text.as_bytes()[..taken]);
+        self.len += taken;
+        Ok(())
+    }
+}
+
+// The text of an instruction. It cannot fail and asks for no memory.
+pub fn text(i: Instruction) -> Line {
+    let mut line = Line::empty();
+    let _ = write!(line, "{}", Shown(i));
+    line
 }

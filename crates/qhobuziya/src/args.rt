@@ -7,6 +7,10 @@ use std::env::FillError;
 // The longest argument: with .new behind it, it is still a path that can be opened.
 pub const LONGEST: usize = 4091;
 
+// So many arguments are read: the program's name, a command, its words, its options with their values, and one that is too many. Whatever
+// is wrong with a call shows by then, and however many there are, no more memory is asked for.
+const MOST: usize = 12;
+
 // Why an argument cannot be used, and its place.
 #[derive(Clone, Copy)]
 pub enum Unsound {
@@ -16,11 +20,11 @@ pub enum Unsound {
 
 pub type Argument = Result<Vec<u8>, Unsound>;
 
-// All arguments; the first is the program's name.
+// The arguments; the first is the program's name.
 pub fn read(rt: &impl System) -> Result<Vec<Argument>, AllocError> {
     let mut buffer = [0u8; LONGEST];
     let mut all = Vec::new(rt.alloc());
-    for place in 0..usize::MAX {
+    for place in 0..MOST {
         let argument = match rt.arg(place, &mut buffer) {
             Ok(0) => Err(Unsound::Empty(place)),
             Ok(n) => Ok(Vec::from_slice(rt.alloc(), &buffer[..n])?),

@@ -11,7 +11,7 @@ pub struct Word(pub u32);
 impl fmt::Display for Word {
     fn fmt<W: fmt::Write>(&self, f: &mut fmt::Formatter<W>) -> fmt::Result {
         match decoder::decode(self.0) {
-            Some(instruction) => write!(f, "{:08x} {}", self.0, names::Text(instruction)),
+            Some(instruction) => write!(f, "{:08x} {}", self.0, names::Shown(instruction)),
             None => write!(f, "{:08x} no such instruction", self.0),
         }
     }

@@ -1,31 +1,38 @@
 // What is said of a failure. A refusal is a result, on standard output. All else is a message for people: one line on standard error that
 // begins with the program's name.
-use crate::args::Unsound;
+use crate::args::{LONGEST, Unsound};
 use crate::failure::{Failure, Usage};
+use crate::save::NEW;
 use crate::system::System;
+use file::FileRefusal;
+use names::Line;
 use session::Refusal;
-use std::alloc::Global;
-use std::io;
 use std::io::Write;
+use std::{fmt, io, str};
 
-// A word that was given. It need not be text, and no byte of it breaks a line.
-fn write_word(out: &mut impl Write, word: &[u8]) -> io::Result<()> {
-    for (i, part) in word.split(|byte| byte.is_ascii_control()).enumerate() {
-        if i > 0 {
-            out.write_all(b"?")?;
-        }
-        out.write_all(part)?;
+// A word that was given, and what is behind it, in one write. It need not be text, and no byte of it breaks a line.
+fn write_word(out: &mut impl Write, word: &[u8], behind: &str) -> io::Result<()> {
+    let mut shown = [0u8; LONGEST + NEW.len()];
+    let bytes = word.iter().chain(behind.as_bytes());
+    for (place, byte) in shown.iter_mut().zip(bytes) {
+        *place = if byte.is_ascii_control() { b'?' } else { *byte };
     }
-    Ok(())
+    out.write_all(shown.get(..word.len() + behind.len()).unwrap_or(&shown))
 }
 
 // What is said of a word, then the word.
 fn write_about(out: &mut impl Write, what: &str, word: &[u8]) -> io::Result<()> {
     write!(out, "{what}: ")?;
-    write_word(out, word)
+    write_word(out, word, "")
 }
 
-// The system's words for what went wrong, without its number behind them.
+// The same of a file that cannot be written, before any is changed.
+fn write_unchanged(out: &mut impl Write, path: &[u8], behind: &str) -> io::Result<()> {
+    out.write_all(b"no file was changed: ")?;
+    write_word(out, path, behind)
+}
+
+// The system's words for what went wrong, without its number behind them. A line has room for them: a message asks for no memory.
 fn words_of(reason: &str) -> &str {
     match reason.rsplit_once(" (os error ") {
         Some((words, _)) => words,
@@ -33,12 +40,11 @@ fn words_of(reason: &str) -> &str {
     }
 }
 
-// Where there is no memory to cut the number off, it stays.
-fn write_error(out: &mut impl Write, alloc: Global, error: io::Error) -> io::Result<()> {
-    match format!(in alloc; "{error}") {
-        Ok(reason) => writeln!(out, ": {}", words_of(reason.as_str())),
-        Err(_) => writeln!(out, ": {error}"),
-    }
+fn write_error(out: &mut impl Write, error: io::Error) -> io::Result<()> {
+    let mut reason = Line::empty();
+    let _ = fmt::Write::write_fmt(&mut reason, format_args!("{error}"));
+    let reason = str::from_utf8(reason.written()).unwrap_or("");
+    writeln!(out, ": {}", words_of(reason))
 }
 
 // What the number of a refusal stands for, in document 01's words.
@@ -62,10 +68,17 @@ fn sentence(refusal: Refusal) -> &'static str {
     }
 }
 
-// A refused call: its number, then the sentence.
-fn write_refusal(out: &mut impl Write, refusal: Refusal) -> io::Result<()> {
-    writeln!(out, "refused {}", u64::from(refusal))?;
-    writeln!(out, "{}", sentence(refusal))
+// A refused call: its number, then the sentence. Each line is one write, since several runs may share an output.
+fn print_refusal(rt: &impl System, refusal: Refusal) -> io::Result<()> {
+    println!(rt; "refused {}", u64::from(refusal))?;
+    println!(rt; "{}", sentence(refusal))
+}
+
+// A refused read also has an offset.
+fn print_refused_file(rt: &impl System, path: &[u8], refused: FileRefusal) -> io::Result<()> {
+    print_refusal(rt, refused.refusal)?;
+    write_word(&mut io::writer(rt), path, "")?;
+    println!(rt; ": offset {}", refused.offset)
 }
 
 fn write_unsound(out: &mut impl Write, unsound: Unsound) -> io::Result<()> {
@@ -84,7 +97,7 @@ fn write_usage(out: &mut impl Write, usage: Usage<'_>) -> io::Result<()> {
         Usage::TooMany(word) => write_about(out, "one argument too many", word),
         Usage::NoOption(command, word) => {
             write!(out, "{command} has no option ")?;
-            write_word(out, word)
+            write_word(out, word, "")
         }
         Usage::NoValue(flag) => write!(out, "{flag} has no value"),
         Usage::Twice(flag) => write!(out, "{flag} is given twice"),
@@ -97,39 +110,35 @@ fn write_usage(out: &mut impl Write, usage: Usage<'_>) -> io::Result<()> {
 
 // The second of two files could not be replaced, after the first was.
 fn write_half(out: &mut impl Write, first: &[u8], second: &[u8]) -> io::Result<()> {
-    write_word(out, first)?;
+    write_word(out, first, "")?;
     write!(out, " was replaced, and what belongs with it waits in ")?;
-    write_word(out, second)?;
-    write_about(out, ".new", second)
+    write_word(out, second, NEW)?;
+    out.write_all(b": ")?;
+    write_word(out, second, "")
 }
 
-fn write_failure(out: &mut impl Write, alloc: Global, failure: Failure<'_>) -> io::Result<()> {
+fn write_failure(out: &mut impl Write, failure: Failure<'_>) -> io::Result<()> {
     match failure {
-        Failure::Refused(refusal) => write_refusal(out, refusal),
-        Failure::RefusedFile(path, refused) => {
-            write_refusal(out, refused.refusal)?;
-            write_word(out, path)?;
-            writeln!(out, ": offset {}", refused.offset)
-        }
+        // These are results, which `tell` prints.
+        Failure::Refused(_) | Failure::RefusedFile(..) => Ok(()),
         Failure::Usage(usage) => {
             write_usage(out, usage)?;
             writeln!(out, "; try: qhobuziya help")
         }
         Failure::Unread(path, error) => {
-            write_word(out, path)?;
-            write_error(out, alloc, error)
+            write_word(out, path, "")?;
+            write_error(out, error)
         }
         Failure::Unwritten {
             path,
             behind,
             error,
         } => {
-            write_about(out, "no file was changed", path)?;
-            write!(out, "{behind}")?;
-            write_error(out, alloc, error)
+            write_unchanged(out, path, behind)?;
+            write_error(out, error)
         }
         Failure::NotPlain(path) => {
-            write_about(out, "no file was changed", path)?;
+            write_unchanged(out, path, "")?;
             writeln!(out, ": only a plain file can be replaced")
         }
         Failure::Half {
@@ -138,11 +147,11 @@ fn write_failure(out: &mut impl Write, alloc: Global, failure: Failure<'_>) -> i
             error,
         } => {
             write_half(out, first, second)?;
-            write_error(out, alloc, error)
+            write_error(out, error)
         }
         Failure::Output(error) => {
             write!(out, "standard output")?;
-            write_error(out, alloc, error)
+            write_error(out, error)
         }
         Failure::Memory => writeln!(out, "out of memory"),
     }
@@ -152,14 +161,16 @@ fn write_failure(out: &mut impl Write, alloc: Global, failure: Failure<'_>) -> i
 fn complain(rt: &impl System, failure: Failure<'_>) {
     let mut errors = rt.errors();
     let _ = errors.write_all(b"qhobuziya: ");
-    let _ = write_failure(&mut errors, rt.alloc(), failure);
+    let _ = write_failure(&mut errors, failure);
 }
 
 pub fn tell(rt: &impl System, failure: Failure<'_>) {
-    if !matches!(&failure, Failure::Refused(_) | Failure::RefusedFile(..)) {
-        return complain(rt, failure);
-    }
-    if let Err(error) = write_failure(&mut io::writer(rt), rt.alloc(), failure) {
+    let printed = match failure {
+        Failure::Refused(refusal) => print_refusal(rt, refusal),
+        Failure::RefusedFile(path, refused) => print_refused_file(rt, path, refused),
+        other => return complain(rt, other),
+    };
+    if let Err(error) = printed {
         complain(rt, Failure::Output(error));
     }
 }

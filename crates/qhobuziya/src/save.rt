@@ -10,7 +10,7 @@ use std::io;
 use std::io::{ErrorKind, Write};
 
 // What is behind the name of a file that is not complete yet.
-const NEW: &str = ".new";
+pub const NEW: &str = ".new";
 
 // The longest file of a session.
 const SESSION: usize = 285;

@@ -6,10 +6,11 @@ use crate::inputs::Inputs;
 use crate::out;
 use crate::system::System;
 use effect::Effect;
+use names::Line;
 use place::GuestAddr;
 use session::{Outcome, Reply, Session, Stop};
-use std::alloc::{AllocError, Global};
 use std::fmt;
+use std::fmt::Write;
 
 // Where a store goes, and how many bytes it takes.
 #[derive(Clone, Copy)]
@@ -57,51 +58,55 @@ impl fmt::Display for Hex<'_> {
     }
 }
 
-// A line with one more change: the first from column 55 on, which no instruction's text reaches, and each other behind a blank.
-fn with_change(
-    alloc: Global,
-    line: String,
-    change: impl fmt::Display + Drop,
-) -> Result<String, AllocError> {
-    format!(in alloc; "{line:<53} {change}")
+// Puts one more change on a line: the first from column 55 on, which no instruction's text reaches, and each other behind a blank.
+fn put_change(line: &mut Line, change: impl fmt::Display + Drop) {
+    for _ in line.len..53 {
+        let _ = line.write_str(" ");
+    }
+    let _ = write!(line, " {change}");
 }
 
-fn line_of(alloc: Global, word: u32, old: &Session, new: &Session) -> Result<String, AllocError> {
-    let mut line = format!(in alloc; "{:016x} {}", old.pc.0, Word(word))?;
+// A line has room for a step's text and changes: the whole trace asks for no memory.
+fn line_of(word: u32, old: &Session, new: &Session) -> Line {
+    let mut line = Line::empty();
+    let _ = write!(line, "{:016x} {}", old.pc.0, Word(word));
     for (i, (before, after)) in old.regs.iter().zip(new.regs.iter()).enumerate() {
         if before != after {
-            line = with_change(alloc, line, format_args!("r{i}={after:016x}"))?;
+            put_change(&mut line, format_args!("r{i}={after:016x}"));
         }
     }
-    Ok(line)
+    line
 }
 
 // One step; an instruction that raises is no step, and has no line.
 fn step<'a>(rt: &impl System, inputs: &mut Inputs) -> Result<Reply, Failure<'a>> {
-    let alloc = rt.alloc();
     let window = inputs.window();
     let old = inputs.session;
     // 0, where there is no word, is no instruction.
     let word = cpu::fetch(&inputs.code, old.pc).unwrap_or(0);
     let store = Store::next(&old, word);
-    let before = Vec::from_slice(alloc, stored(store, &inputs.card))?;
+    // No store takes more than eight bytes.
+    let mut before = [0u8; 8];
+    for (place, byte) in before.iter_mut().zip(stored(store, &inputs.card)) {
+        *place = *byte;
+    }
     let reply = host::run(&inputs.code, &mut inputs.card, window, old, 1);
     inputs.session = reply.session;
     if reply.steps == 0 {
         return Ok(reply);
     }
-    let mut line = line_of(alloc, word, &old, &reply.session)?;
+    let mut line = line_of(word, &old, &reply.session);
     let after = stored(store, &inputs.card);
     if let Some(store) = store
-        && before.as_slice() != after
+        && before.get(..after.len()) != Some(after)
     {
-        line = with_change(
-            alloc,
-            line,
+        put_change(
+            &mut line,
             format_args!("{:016x}={}", store.at.0, Hex(after)),
-        )?;
+        );
     }
-    rt.println(line)?;
+    let _ = line.write_str("\n");
+    rt.write_all(line.written())?;
     Ok(reply)
 }
 
